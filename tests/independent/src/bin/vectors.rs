@@ -1,0 +1,5 @@
+//! Writes `crates/vectors/stdout`.
+
+fn main() {
+    print!("{}", independent::vectors::listing());
+}
