@@ -3,8 +3,8 @@
 use std::path::Path;
 
 fn main() {
-    let top = Path::new(env!("CARGO_MANIFEST_DIR")).join("../..");
-    let folder = top.join("target/staticlib");
+    let here = std::env::var("CARGO_MANIFEST_DIR").expect("cargo says where this crate is");
+    let folder = Path::new(&here).join("../../target/staticlib");
     println!("cargo:rerun-if-changed={}", folder.join("libc_api.a").display());
     println!("cargo:rustc-link-search=native={}", folder.display());
     println!("cargo:rustc-link-lib=static=c_api");

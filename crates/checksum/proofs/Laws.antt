@@ -1,12 +1,12 @@
 -- The laws of the checksum that other crates cite, shown from its definition alone, so that they stay however it is computed.
-use Prim.Native.Nat.{ℕ, _*_, _/_, _%_, _^_, _<_}
+use Prim.Native.Nat.{ℕ, _^_, _<_}
 use mathlib.Core.Bool.{Bool, true, false, cond as if}
 use mathlib.Core.List.{List, [], _∷_, _++_}
 use mathlib.Core.Path.{_≡_, refl}
 use native.Mathlib.Omega.{arith}
-use lib.Bits.{bitXor, xor-lt}
+use lib.Bits.{xor-lt}
 use lib.Dec.{eqb}
-use Rattle.checksum.specs.Checksum.{polynomial, start, withBit, withBits, bitsOf, checksumFrom, checksumOf}
+use Rattle.checksum.specs.Checksum.{top, moved, polynomial, withBit, withBits, start, bitsOf, checksumFrom, checksumOf}
 
 -- the checksum of two lists joined is that of the second, continued from that of the first
 pub from-joined : (c : ℕ) (xs ys : List ℕ) → checksumFrom c (xs ++ ys) ≡ checksumFrom (checksumFrom c xs) ys
@@ -25,8 +25,7 @@ either-below false p q = q
 
 bit-below : (c b : ℕ) → withBit c b < 2 ^ 16
 unfolding withBit
-bit-below c b =
-    either-below (eqb (c / 0x8000) b) (omega arith) (xor-lt 16 (c * 2 % 0x10000) polynomial (omega arith) (omega arith))
+bit-below c b = either-below (eqb (top c) b) (omega arith) (xor-lt 16 (moved c) polynomial (omega arith) (omega arith))
 
 bits-below : (c : ℕ) (bs : List ℕ) → c < 2 ^ 16 → withBits c bs < 2 ^ 16
 unfolding withBits

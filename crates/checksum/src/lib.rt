@@ -40,7 +40,7 @@ fn with_bit(register: u16, bit: u16) -> u16
     ensures { λ r. ⌜ r ≡ withBit register bit ⌝ }
 {
     let moved = register << 1;
-    if register / 0x8000 == bit {
+    if register >> 15 == bit {
         moved
     } else {
         moved ^ POLYNOMIAL
