@@ -6,10 +6,11 @@ use mathlib.Core.List.{List, [], _∷_}
 use lib.Bits.{bitXor}
 use lib.Dec.{eqb}
 
--- "16 bits": the bit that the register c loses at its top as it moves one place to the left, and what it then is
+-- "16 bits": the highest bit of the register c, which it loses as it moves one place to the left
 abbrev pub top : ℕ → ℕ
 top c = c / 2 ^ 15
 
+-- "16 bits": the register after that move
 abbrev pub moved : ℕ → ℕ
 moved c = c * 2 % 2 ^ 16
 
@@ -22,6 +23,7 @@ polynomial = 0x1021
 unfoldable pub withBit : ℕ → ℕ → ℕ
 withBit c bit = if (eqb (top c) bit) (moved c) (bitXor (moved c) polynomial)
 
+-- the register after a list of bits, the first of them first
 unfoldable pub withBits : ℕ → List ℕ → ℕ
 withBits c [] = c
 withBits c (bit ∷ bits) = withBits (withBit c bit) bits
