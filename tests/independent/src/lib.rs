@@ -1,4 +1,8 @@
 //! A second implementation, written from document 01 alone, that the proved programs are compared with.
 
 pub mod checksum;
+pub mod examples;
+pub mod message;
+pub mod reader;
 pub mod vectors;
+pub mod writer;

@@ -1,0 +1,58 @@
+//! What the contenders are given, the same at each run.
+
+/// TYPE DATA_SEQ
+const DATA_SEQ: u8 = 0x80;
+/// A message's bytes beside its payload.
+const OVERHEAD: usize = 10;
+/// Bytes of the shortest and of the longest payload.
+const SHORTEST: usize = 8;
+const LONGEST: usize = 64;
+
+/// Bytes that look random (xorshift64).
+pub fn random(length: usize) -> Vec<u8> {
+    let mut state = 0x9E37_79B9_7F4A_7C15_u64;
+    let mut next = || {
+        state ^= state << 13;
+        state ^= state >> 7;
+        state ^= state << 17;
+        (state >> 56) as u8
+    };
+    (0..length).map(|_| next()).collect()
+}
+
+/// Messages behind one another without a gap, with payloads of 8 to 64 bytes, written by the library.
+pub fn messages(length: usize) -> Vec<u8> {
+    let payloads = random(length);
+    let mut bytes = vec![0; length];
+    let (mut place, mut seq) = (0, 0_u8);
+    while place < length {
+        let len = payload_length(length - place, payloads[place]);
+        let answer = binding::write(&mut bytes, place, DATA_SEQ, seq, &payloads[place..place + len]);
+        assert_eq!(answer, OVERHEAD + len, "the message is written");
+        place += answer;
+        seq = seq.wrapping_add(1);
+    }
+    bytes
+}
+
+/// A length drawn by `chance`, but near the end one that leaves no gap.
+fn payload_length(room: usize, chance: u8) -> usize {
+    if room <= OVERHEAD + LONGEST {
+        room - OVERHEAD
+    } else if room < 2 * OVERHEAD + LONGEST + SHORTEST {
+        SHORTEST
+    } else {
+        SHORTEST + usize::from(chance) % (LONGEST - SHORTEST + 1)
+    }
+}
+
+/// Random bytes in which AA 55 never stands.
+pub fn junk(length: usize) -> Vec<u8> {
+    let mut bytes = random(length);
+    for at in 1..length {
+        if bytes[at - 1..=at] == [0xAA, 0x55] {
+            bytes[at] = 0;
+        }
+    }
+    bytes
+}

@@ -1,0 +1,11 @@
+pub mod Headers
+pub mod Buffer
+pub mod Accepted
+pub mod Dropping
+pub mod Rules
+pub mod Found
+pub mod ReadWritten
+pub mod WrittenRead
+pub mod More
+pub mod Laws
+pub mod Examples

@@ -1,0 +1,101 @@
+use mathlib.Core.Path.{sym, _∙_}
+use native.Mathlib.Omega.{arith}
+use borrow.Author.Needs.{needs}
+use borrow.Author.Tests.{not-true, not-false}
+use denote.Ref.{now}
+use Rattle.message.proofs.Rules.{rule-1, rule-2, rule-3, rule-4, rule-5, rule-6}
+use Rattle.message.proofs.reader.apply_rules.Statement.{statement}
+use Rattle.message.proofs.reader.apply_rules.Tie as tie
+
+returns : tie.Need-returns
+returns c = sym (rule-1 _ _ (c .if1 .taken))
+
+header-is-sound-requires : tie.Need-header-is-sound-requires
+header-is-sound-requires c κs = search needs
+
+shared-slice-read-kind : tie.Need-shared-slice-read-kind
+shared-slice-read-kind c = search needs
+
+le16-at-requires : tie.Need-le16-at-requires
+le16-at-requires c κs = search needs
+
+cast-len : tie.Need-cast-len
+cast-len c = search needs
+
+is-allowed-requires : tie.Need-is-allowed-requires
+is-allowed-requires c κs = search needs
+
+returns-2 : tie.Need-returns-2
+returns-2 c = let a = c .before .before .before .before .before .before .before .args in
+    let sound = c .before .before .before .before .header-is-sound in
+    sym (rule-2 (a .dropped) (now (a .rest)) (omega arith) (sym (sound .ensures) ∙ not-true (sound .result) (c .if2 .taken)))
+
+returns-3 : tie.Need-returns-3
+returns-3 c = let a = c .before .before .before .before .before .before .before .before .args in
+    let sound = c .before .before .before .before .before .header-is-sound in
+    let len = c .before .before .before .le16-at in
+    let fine = c .before .before .is-allowed in
+    sym
+    (rule-3 (a .dropped) (now (a .rest)) (omega arith) (sym (sound .ensures) ∙ not-false (sound .result) (c .before .if2 .left))
+    (rw (len .ensures) at (sym (fine .ensures) ∙ not-true (fine .result) (c .if3 .taken))))
+
+add-total : tie.Need-add-total
+add-total c = search needs
+
+returns-4 : tie.Need-returns-4
+returns-4 c = let a = c .before .before .before .before .before .before .before .before .before .args in
+    let sound = c .before .before .before .before .before .before .header-is-sound in
+    let len = c .before .before .before .before .le16-at in
+    let fine = c .before .before .before .is-allowed in
+    sym
+    (rule-4 (a .dropped) (now (a .rest)) (omega arith) (sym (sound .ensures) ∙ not-false (sound .result) (c .before .before .if2 .left))
+    (rw (len .ensures) at (sym (fine .ensures) ∙ not-false (fine .result) (c .before .if3 .left)))
+    (omega (arith, len .ensures)))
+
+payload-is-sound-requires : tie.Need-payload-is-sound-requires
+payload-is-sound-requires c κs = search needs
+
+returns-5 : tie.Need-returns-5
+returns-5 c = let a = c .before .before .before .before .before .before .before .before .before .before .before .args in
+    let sound = c .before .before .before .before .before .before .before .before .header-is-sound in
+    let len = c .before .before .before .before .before .before .le16-at in
+    let fine = c .before .before .before .before .before .is-allowed in
+    let body = c .before .payload-is-sound in
+    sym
+    (rule-5 (a .dropped) (now (a .rest)) (omega arith) (sym (sound .ensures) ∙ not-false (sound .result) (c .before .before .before .before .if2 .left))
+    (rw (len .ensures) at (sym (fine .ensures) ∙ not-false (fine .result) (c .before .before .before .if3 .left)))
+    (omega (arith, len .ensures)) (sym (body .ensures) ∙ not-true (body .result) (c .if5 .taken)))
+
+shared-slice-read-t11 : tie.Need-shared-slice-read-t11
+shared-slice-read-t11 c = search needs
+
+returns-6 : tie.Need-returns-6
+returns-6 c = let a = c .before .before .before .before .before .before .before .before .before .before .before .before .args in
+    let sound = c .before .before .before .before .before .before .before .before .before .header-is-sound in
+    let len = c .before .before .before .before .before .before .before .le16-at in
+    let fine = c .before .before .before .before .before .before .is-allowed in
+    let body = c .before .before .payload-is-sound in
+    rw (len .ensures)
+    (sym
+    (rule-6 (a .dropped) (now (a .rest)) (omega arith) (sym (sound .ensures) ∙ not-false (sound .result) (c .before .before .before .before .before .if2 .left))
+    (rw (len .ensures) at (sym (fine .ensures) ∙ not-false (fine .result) (c .before .before .before .before .if3 .left)))
+    (omega (arith, len .ensures)) (sym (body .ensures) ∙ not-false (body .result) (c .before .if5 .left))))
+
+pub apply-rules-spec : {M : Type 1} → statement M
+apply-rules-spec =
+    tie.close
+    (tie.spec
+    returns
+    header-is-sound-requires
+    shared-slice-read-kind
+    le16-at-requires
+    cast-len
+    is-allowed-requires
+    returns-2
+    returns-3
+    add-total
+    returns-4
+    payload-is-sound-requires
+    returns-5
+    shared-slice-read-t11
+    returns-6)

@@ -1,0 +1,37 @@
+-- Document 01, "The writer places a message at a given place in a lent buffer": what it answers, and the buffer afterwards.
+use Prim.Native.Nat.{ℕ, _+_, _≤_}
+use mathlib.Core.Bool.{not, cond as if}
+use mathlib.Core.List.{List, _++_}
+use lib.Dec.{ltb}
+use lib.ListN.{length, take, drop}
+use Rattle.message.specs.Bytes.{headerLength, total, maxLen, writable}
+
+-- "it answers the length written", or a refusal's number
+pub data Answer : Type 0 where
+  accepted : (length : ℕ) → Answer
+  refused : (number : ℕ) → Answer
+
+-- "7: forbidden header, or NAK with SEQ not 0", "6: place plus 10 + LEN past the buffer's end (after 7)"
+unfoldable pub written : (size place type seq len : ℕ) → Answer
+written size place type seq len =
+    if (not (writable type len seq)) (refused 7)
+    (if (ltb size (place + total len)) (refused 6)
+    (accepted (total len)))
+
+-- "bytes before and after it stay": the buffer with bytes at a place of it
+unfoldable pub placed : ℕ → List ℕ → List ℕ → List ℕ
+placed place bytes buffer = take place buffer ++ (bytes ++ drop (place + length bytes) buffer)
+
+-- the buffer after an answer: a refusal leaves it
+abbrev pub after : Answer → ℕ → List ℕ → List ℕ → List ℕ
+after (accepted n) place bytes buffer = placed place bytes buffer
+after (refused n) place bytes buffer = buffer
+
+-- the payload of a message at a place, where it stands in the buffer already
+abbrev pub payloadAt : ℕ → ℕ → List ℕ → List ℕ
+payloadAt place len buffer = take len (drop (place + headerLength) buffer)
+
+-- a message that neither number refuses: what the functions below the writer ask
+pub record Fitting (size place len : ℕ) : Type 0 where
+  pub short : len ≤ maxLen
+  pub room : place + total len ≤ size

@@ -1,0 +1,186 @@
+// The message reader (document 01, "How bytes become items"): the first item of a lent slice. It holds nothing.
+ghost use mathlib.Core.Path.{_≡_};
+ghost use Prim.Native.Nat.{_+_, _≤_, _<_};
+ghost use lib.Dec.{eqb};
+ghost use lib.ListN.{length, getD, take, drop};
+ghost use Rattle.checksum.specs.Checksum.{checksumOf};
+ghost use Rattle.message.specs.Bytes.{fromLe16, headerLength, total};
+ghost use Rattle.message.specs.Items.{stands, dropped, lenIn, fieldsIn, headerChecksumIn, payloadIn, payloadChecksumIn, rules, scan, partWith};
+ghost use Rattle.message.specs.Promises.{scanOf};
+use crate::Seq;
+use crate::header::AROUND;
+use crate::header::HEADER;
+use crate::header::SYN;
+use crate::header::SYN_LENGTH;
+use crate::header::is_allowed;
+
+// An item.
+pub enum Item {
+    DamagedHeader,
+    Forbidden,
+    DamagedPayload,
+    Message { kind: u8, seq: Seq, len: usize },
+}
+
+// The first item, with the bytes dropped before it and the bytes removed with it; or none yet.
+pub enum Reading {
+    Undecided {
+        dropped: usize,
+    },
+    Decided {
+        item: Item,
+        dropped: usize,
+        removed: usize,
+    },
+}
+
+// The first item of the bytes.
+pub fn read(bytes: &[u8]) -> Reading
+    ensures { λ r. ⌜ scanOf r ≡ scan (now (bytes .entry)) ⌝ }
+{
+    let dropped = count_dropped(bytes);
+    apply_rules(&bytes[dropped..], dropped)
+}
+
+// The payload of what was read in the bytes, as a part of them: empty for all but a message.
+pub fn payload(bytes: &[u8], reading: Reading) -> &[u8]
+    ensures { λ r. ⌜ now r ≡ partWith (scanOf reading) (now (bytes .entry)) ⌝ }
+{
+    let Reading::Decided {
+        item,
+        dropped,
+        removed: _,
+    } = reading
+    else {
+        return &bytes[..0];
+    };
+    let Item::Message {
+        kind: _,
+        seq: _,
+        len,
+    } = item
+    else {
+        return &bytes[..0];
+    };
+    after_header(bytes, dropped, len)
+}
+
+// How many bytes go until SYN stands in front.
+fn count_dropped(bytes: &[u8]) -> usize
+    ensures { λ r. ⌜ r ≡ dropped (now (bytes .entry)) ⌝ }
+{
+    let mut rest = bytes;
+    while 0 < rest.len() {
+        if syn_stands(rest) {
+            return bytes.len() - rest.len();
+        }
+        rest = &rest[1..];
+    }
+    bytes.len()
+}
+
+// Whether SYN stands in front, or what may become one: its first byte at the end.
+fn syn_stands(rest: &[u8]) -> bool
+    ensures { λ r. ⌜ r ≡ stands (now (rest .entry)) ⌝ }
+{
+    let syn = SYN;
+    if rest.len() == 0 {
+        return false;
+    }
+    if rest[0] != syn[0] {
+        return false;
+    }
+    if rest.len() == 1 {
+        return true;
+    }
+    rest[1] == syn[1]
+}
+
+// Rules 1 to 6, on what is left after dropping.
+fn apply_rules(rest: &[u8], dropped: usize) -> Reading
+    ensures { λ r. ⌜ scanOf r ≡ rules dropped (now (rest .entry)) ⌝ }
+{
+    if rest.len() < HEADER {
+        return Reading::Undecided { dropped };
+    }
+    let sound = header_is_sound(rest);
+    let kind = rest[2];
+    let len = le16_at(rest, 3) as usize;
+    let fine = is_allowed(kind, len);
+    if !sound {
+        return Reading::Decided {
+            item: Item::DamagedHeader,
+            dropped,
+            removed: SYN_LENGTH,
+        };
+    }
+    if !fine {
+        return Reading::Decided {
+            item: Item::Forbidden,
+            dropped,
+            removed: SYN_LENGTH,
+        };
+    }
+    let total = AROUND + len;
+    if rest.len() < total {
+        return Reading::Undecided { dropped };
+    }
+    if !payload_is_sound(rest, len) {
+        return Reading::Decided {
+            item: Item::DamagedPayload,
+            dropped,
+            removed: SYN_LENGTH,
+        };
+    }
+    Reading::Decided {
+        item: Item::Message {
+            kind,
+            seq: Seq(rest[5]),
+            len,
+        },
+        dropped,
+        removed: total,
+    }
+}
+
+// Whether the header's checksum is right.
+fn header_is_sound(rest: &[u8]) -> bool
+    requires { ⌜ headerLength ≤ length (now rest) ⌝ }
+    ensures { λ r. ⌜ r ≡ eqb (headerChecksumIn (now (rest .entry))) (checksumOf (fieldsIn (now (rest .entry)))) ⌝ }
+{
+    le16_at(rest, 6) == checksum::checksum(&rest[2..6])
+}
+
+// Whether the payload's checksum is right, its length being the header's LEN.
+fn payload_is_sound(rest: &[u8], len: usize) -> bool
+    requires { ⌜ (len ≡ lenIn (now rest)) × (total len ≤ length (now rest)) ⌝ }
+    ensures { λ r. ⌜ r ≡ eqb (payloadChecksumIn (now (rest .entry))) (checksumOf (payloadIn (now (rest .entry)))) ⌝ }
+{
+    let end = HEADER + len;
+    le16_at(rest, end) == checksum::checksum(&rest[HEADER..end])
+}
+
+// The 16-bit number at a place.
+fn le16_at(bytes: &[u8], at: usize) -> u16
+    requires { ⌜ at + 1 < length (now bytes) ⌝ }
+    ensures { λ r. ⌜ r ≡ fromLe16 (getD (now (bytes .entry)) at 0) (getD (now (bytes .entry)) (at + 1) 0) ⌝ }
+{
+    bytes[at] as u16 + bytes[at + 1] as u16 * 256
+}
+
+// The len bytes after a header at a place, or those that there are.
+fn after_header(bytes: &[u8], place: usize, len: usize) -> &[u8]
+    ensures { λ r. ⌜ now r ≡ take len (drop (place + headerLength) (now (bytes .entry))) ⌝ }
+{
+    if bytes.len() < HEADER {
+        return &bytes[..0];
+    }
+    if bytes.len() - HEADER < place {
+        return &bytes[..0];
+    }
+    let rest = &bytes[place + HEADER..];
+    if rest.len() < len {
+        return rest;
+    }
+    &rest[..len]
+}
