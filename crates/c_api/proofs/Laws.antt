@@ -24,7 +24,8 @@ named (decided damagedPayload m k) xs {i} {t} {q} {p} {n} h = let none : n ≡ 0
 named (decided (message type seq len) m k) xs {i} {t} {q} {p} {n} h =
     let count : n ≡ len = cc in let place : p ≡ m + headerLength = cc in rw (count, place)
 
-pub payload-named : (xs : List ℕ) {i t q p n d r : ℕ} → numbersOf (scan xs) ≡ numbers i t q p n d r → take n (drop p xs) ≡ payloadOf xs
+pub payload-named : (xs : List ℕ) {i t q p n d r : ℕ} → numbersOf (scan xs) ≡ numbers i t q p n d r
+    → take n (drop p xs) ≡ payloadOf xs
 unfolding payloadOf
 payload-named xs h = named (scan xs) xs h
 

@@ -17,6 +17,7 @@ pub extern "C" fn fizrahum_checksum(bytes: &[u8]) -> u16
 }
 
 // Places a message at a place of the buffer. Answers its length, at least 10, or refusal 7 or 6, which leaves the buffer.
+// Ruled out: an answer of 6 for a forbidden header, and a length with a buffer that was left as it was.
 #[no_mangle]
 pub extern "C" fn fizrahum_write(
     buffer: &mut [u8],
@@ -42,7 +43,8 @@ pub extern "C" fn fizrahum_read(
     dropped: &mut usize,
     removed: &mut usize,
 ) -> u8
-    ensures { λ r. ⌜ numbers r (now (kind .exit)) (now (seq .exit)) (now (payload .exit)) (now (len .exit)) (now (dropped .exit)) (now (removed .exit)) ≡ numbersOf (scan (now (bytes .entry))) ⌝ }
+    ensures { λ r. ⌜ numbers r (now (kind .exit)) (now (seq .exit)) (now (payload .exit)) (now (len .exit)) (now (dropped .exit))
+        (now (removed .exit)) ≡ numbersOf (scan (now (bytes .entry))) ⌝ }
 {
     let answer = numbers::of_reading(message::reader::read(bytes));
     *kind = answer.kind;

@@ -5,7 +5,7 @@ ghost use Rattle.message.specs.Items.{decided};
 ghost use Rattle.message.specs.Promises.{answerOf, itemOf, scanOf};
 ghost use Rattle.c_api.specs.Numbers.{numberOf, numbers, numbersOf, placeOf};
 ghost use Rattle.c_api.specs.Code.{numbersIn};
-use message::header::HEADER;
+use message::header::HEADER_LENGTH;
 use message::reader::Item;
 use message::reader::Reading;
 use message::writer::Written;
@@ -59,7 +59,7 @@ fn of_item(item: Item, dropped: usize, removed: usize) -> Numbers
             rule: 6,
             kind,
             seq: seq.0,
-            payload: dropped + HEADER,
+            payload: dropped + HEADER_LENGTH,
             len,
             dropped,
             removed,

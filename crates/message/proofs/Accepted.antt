@@ -6,12 +6,13 @@ use mathlib.Core.Logic.{⊎-elim}
 use mathlib.Core.Path.{_≡_, refl}
 use native.Mathlib.Omega.{arith}
 use lib.Dec.{ltb}
+use lib.ListN.{length}
 use borrow.Author.Tests.{ltb-false}
 use denote.Enum.Declared.{tagOf}
 use types.Run.{OneOf}
-use Rattle.message.specs.Bytes.{total, writable}
-use Rattle.message.specs.Writing.{accepted, refused, written, placed, after, Fitting}
-use Rattle.message.specs.Promises.{answerOf}
+use Rattle.message.specs.Bytes.{message, maxLen, total, writable}
+use Rattle.message.specs.Writing.{accepted, refused, written, placed, after}
+use Rattle.message.specs.Promises.{answerOf, Wrote}
 use Rattle.message.specs.declared.writer.Written.{Written}
 use Rattle.message.specs.declared.writer.Written.the-variants.{Length, Forbidden, NoRoom}
 use Rattle.message.proofs.Headers.{writable-short}
@@ -36,9 +37,10 @@ passed {n} s p t q len h =
     record { sound = both .0; room = ltb-false s (p + total len) (both .1 .0); count = both .1 .1 }
 
 -- so it meets what the functions below the writer ask
-pub fitting : (r : Written) (n s p t q len : ℕ) → r ≡ Length n → answerOf r ≡ written s p t q len → Fitting s p len
+pub fitting : (r : Written) (n s p t q len : ℕ) → r ≡ Length n → answerOf r ≡ written s p t q len
+    → (len ≤ maxLen) × (p + total len ≤ s)
 fitting r n s p t q len told h =
-    let t = passed {n = n} s p t q len (rw told at h) in record { short = writable-short _ len _ (t .sound); room = t .room }
+    let t = passed {n = n} s p t q len (rw told at h) in (writable-short _ len _ (t .sound), t .room)
 
 -- the answers of `written`, from the two tests
 pub says-7 : (s p t q len : ℕ) → writable t len q ≡ false → written s p t q len ≡ refused 7
@@ -49,16 +51,21 @@ pub says-6 : (s p t q len : ℕ) → writable t len q ≡ true → ltb s (p + to
 unfolding written
 says-6 s p t q len h past = rw (h, past)
 
-pub says-length : (s p t q len : ℕ) → writable t len q ≡ true → ltb s (p + total len) ≡ false → written s p t q len ≡ accepted (total len)
+pub says-length : (s p t q len : ℕ) → writable t len q ≡ true → ltb s (p + total len) ≡ false
+    → written s p t q len ≡ accepted (total len)
 unfolding written
 says-length s p t q len h room = rw (h, room)
 
--- the buffer after a length
-pub done : (r : Written) (n p : ℕ) (m l : List ℕ) → r ≡ Length n → placed p m l ≡ after (answerOf r) p m l
-done r n p m l told = rw told
-
 -- an answer that is no length leaves the buffer
-pub left : (r : Written) (p : ℕ) (m l : List ℕ) → OneOf (1 ∷ 2 ∷ []) (tagOf the-type r) → l ≡ after (answerOf r) p m l
+left : (r : Written) (p : ℕ) (m l : List ℕ) → OneOf (1 ∷ 2 ∷ []) (tagOf the-type r) → l ≡ after (answerOf r) p m l
 left (Length n) p m l k = absurd (⊎-elim (λ e. omega (arith, e)) (λ e. omega (arith, e)) k)
 left Forbidden p m l k = refl
 left NoRoom p m l k = refl
+
+-- so the promise of a writer holds after a length and after a refusal
+module _ (r : Written) (place t q len : ℕ) (p l : List ℕ) (answers : answerOf r ≡ written (length l) place t q len) where
+  pub wrote-length : (n : ℕ) (exit : List ℕ) → r ≡ Length n → exit ≡ placed place (message t q p) l → Wrote r place t q len p l exit
+  wrote-length n exit told put = record { answers = answers; leaves = rw told put }
+
+  pub wrote-refusal : OneOf (1 ∷ 2 ∷ []) (tagOf the-type r) → Wrote r place t q len p l l
+  wrote-refusal other = record { answers = answers; leaves = left r place (message t q p) l other }

@@ -43,7 +43,8 @@ module _ (xs ys : List ℕ) (long : headerLength ≤ length xs) where
   sum-more : headerChecksumIn (xs ++ ys) ≡ headerChecksumIn xs
   sum-more = rw (List·getD-append xs ys 0 6 (omega arith), List·getD-append xs ys 0 7 (omega arith))
 
-  sound-more : eqb (headerChecksumIn (xs ++ ys)) (checksumOf (fieldsIn (xs ++ ys))) ≡ eqb (headerChecksumIn xs) (checksumOf (fieldsIn xs))
+  sound-more : eqb (headerChecksumIn (xs ++ ys)) (checksumOf (fieldsIn (xs ++ ys)))
+      ≡ eqb (headerChecksumIn xs) (checksumOf (fieldsIn xs))
   sound-more = rw (sum-more, fields-more)
 
   allowed-more : allowed (typeIn (xs ++ ys)) (lenIn (xs ++ ys)) ≡ allowed (typeIn xs) (lenIn xs)
@@ -63,9 +64,14 @@ module _ (xs ys : List ℕ) (long : headerLength ≤ length xs) where
 
     stored-more : payloadChecksumIn (xs ++ ys) ≡ payloadChecksumIn xs
     stored-more =
-        rw (len-more, List·getD-append xs ys 0 (headerLength + lenIn xs) (omega arith), List·getD-append xs ys 0 (headerLength + lenIn xs + 1) (omega arith))
+        rw (
+          len-more,
+          List·getD-append xs ys 0 (headerLength + lenIn xs) (omega arith),
+          List·getD-append xs ys 0 (headerLength + lenIn xs + 1) (omega arith),
+        )
 
-    good-more : eqb (payloadChecksumIn (xs ++ ys)) (checksumOf (payloadIn (xs ++ ys))) ≡ eqb (payloadChecksumIn xs) (checksumOf (payloadIn xs))
+    good-more : eqb (payloadChecksumIn (xs ++ ys)) (checksumOf (payloadIn (xs ++ ys)))
+        ≡ eqb (payloadChecksumIn xs) (checksumOf (payloadIn xs))
     good-more = rw (stored-more, payload-more)
 
 -- so the rules decide the same
@@ -77,11 +83,13 @@ rules-more n xs ys s (by-3 long sound bad e) h =
 rules-more n xs ys s (by-4 long short e) h = let z : _≡_ {A = ℕ} 0 1 = cc in absurd (omega arith)
 rules-more n xs ys s (by-5 long sound fine whole bad e) h =
     rw e
-    (rule-5 n (xs ++ ys) (long-more xs ys long) (sound-more xs ys long ∙ sound) (allowed-more xs ys long ∙ fine) (whole-more xs ys long whole)
+    (rule-5 n (xs ++ ys) (long-more xs ys long) (sound-more xs ys long ∙ sound) (allowed-more xs ys long ∙ fine)
+    (whole-more xs ys long whole)
     (good-more xs ys long whole ∙ bad))
 rules-more n xs ys s (by-6 long sound fine whole good e) h =
     rw (e, ← type-more xs ys long, ← seq-more xs ys long, ← len-more xs ys long)
-    (rule-6 n (xs ++ ys) (long-more xs ys long) (sound-more xs ys long ∙ sound) (allowed-more xs ys long ∙ fine) (whole-more xs ys long whole)
+    (rule-6 n (xs ++ ys) (long-more xs ys long) (sound-more xs ys long ∙ sound) (allowed-more xs ys long ∙ fine)
+    (whole-more xs ys long whole)
     (good-more xs ys long whole ∙ good))
 
 -- and `scan` with them
@@ -93,7 +101,8 @@ scan-more xs ys h =
     (rules-more (dropped xs) (drop (dropped xs) xs) ys (scan xs) (applied (dropped xs) (drop (dropped xs) xs)) h ∙ h)
 
 -- and the payload of what was found
-part-more : (i : Item) (d r : ℕ) (xs ys : List ℕ) → scan xs ≡ decided i d r → partWith (decided i d r) (xs ++ ys) ≡ partWith (decided i d r) xs
+part-more : (i : Item) (d r : ℕ) (xs ys : List ℕ) → scan xs ≡ decided i d r
+    → partWith (decided i d r) (xs ++ ys) ≡ partWith (decided i d r) xs
 part-more damagedHeader d r xs ys h = refl
 part-more forbidden d r xs ys h = refl
 part-more damagedPayload d r xs ys h = refl

@@ -45,7 +45,8 @@ module _ (t q : ℕ) (p rest : List ℕ) where
   at-message : (i : ℕ) → getD (message t q p ++ rest) (headerLength + i) 0 ≡ getD (p ++ (le16 (checksumOf p) ++ rest)) i 0
   at-message i = sym (getD-drop headerLength (message t q p ++ rest) i 0) ∙ ap (λ (l : List ℕ). getD l i 0) after-message
 
-  stored-message : fromLe16 (getD (message t q p ++ rest) (headerLength + length p) 0) (getD (message t q p ++ rest) (headerLength + length p + 1) 0)
+  stored-message : fromLe16 (getD (message t q p ++ rest) (headerLength + length p) 0)
+      (getD (message t q p ++ rest) (headerLength + length p + 1) 0)
       ≡ checksumOf p
   unfolding le16
   stored-message =
@@ -67,12 +68,14 @@ module _ (t q : ℕ) (p rest : List ℕ) where
   seq-message = refl
 
   -- it is read as it was written, and takes exactly its bytes
-  pub scan-message : allowed t (length p) ≡ true → scan (message t q p ++ rest) ≡ decided (items.message t q (length p)) 0 (total (length p))
+  pub scan-message : allowed t (length p) ≡ true
+      → scan (message t q p ++ rest) ≡ decided (items.message t q (length p)) 0 (total (length p))
   unfolding scan
   scan-message fine =
       let long = long-message in
       rw (dropped-here (message t q p ++ rest) stands-message)
-      (rule-6 0 (message t q p ++ rest) (omega arith) header-message (rw (type-message, len-message) fine) (rw len-message long) checksum-message
+      (rule-6 0 (message t q p ++ rest) (omega arith) header-message (rw (type-message, len-message) fine)
+      (rw len-message long) checksum-message
       ∙ rw (type-message, seq-message, len-message))
 
   pub payload-of-message : allowed t (length p) ≡ true → payloadOf (message t q p ++ rest) ≡ p

@@ -38,7 +38,8 @@ module _ (n : ℕ) (xs : List ℕ) where
         pub rule-6 : total (lenIn xs) ≤ length xs → eqb (payloadChecksumIn xs) (checksumOf (payloadIn xs)) ≡ true
             → rules n xs ≡ found n (message (typeIn xs) (seqIn xs) (lenIn xs))
         unfolding rules
-        rule-6 whole good = rw (le-ltb (length xs) headerLength long, sound, fine, le-ltb (length xs) (total (lenIn xs)) whole, good)
+        rule-6 whole good =
+            rw (le-ltb (length xs) headerLength long, sound, fine, le-ltb (length xs) (total (lenIn xs)) whole, good)
 
 -- which rule applied, with the tests that led to it
 pub data Applied (n : ℕ) (xs : List ℕ) (s : Scan) : Type 0 where

@@ -32,7 +32,7 @@ fields type len seq = type ∷ (le16 len ++ (seq ∷ []))
 unfoldable pub header : ℕ → ℕ → ℕ → List ℕ
 header type len seq = syn ++ (fields type len seq ++ le16 (checksumOf (fields type len seq)))
 
--- its bytes: 2 + 1 + 2 + 1 + 2
+-- how many bytes that is: 2 + 1 + 2 + 1 + 2
 abbrev pub headerLength : ℕ
 headerLength = 8
 

@@ -30,7 +30,7 @@ unfoldable pub dropped : List ℕ → ℕ
 dropped [] = 0
 dropped (x ∷ xs) = if (stands (x ∷ xs)) 0 (suc (dropped xs))
 
--- the parts of a message that begins a list of bytes
+-- the parts of a message that stands in front: SYN (2), TYPE (1), LEN (2), SEQ (1), checksum (2), payload (LEN), checksum (2)
 abbrev pub typeIn : List ℕ → ℕ
 typeIn xs = getD xs 2 0
 
@@ -59,11 +59,11 @@ removedWith forbidden = length syn
 removedWith damagedPayload = length syn
 removedWith (message type seq len) = total len
 
--- an item is found, n bytes having been dropped before it
+-- an item found after n bytes were dropped, with the bytes removed with it
 abbrev pub found : ℕ → Item → Scan
 found n item = decided item n (removedWith item)
 
--- the six rules, each in its place, on bytes that are left after n were dropped
+-- rules 1 to 6 in their order, on what is left after n bytes were dropped
 unfoldable pub rules : ℕ → List ℕ → Scan
 rules n xs =
     if (ltb (length xs) headerLength) (undecided n)
@@ -77,7 +77,7 @@ rules n xs =
 unfoldable pub scan : List ℕ → Scan
 scan xs = rules (dropped xs) (drop (dropped xs) xs)
 
--- "hands back the payload as a part of that slice ... The part is empty for all but a message": of what is left after dropping
+-- "hands back the payload as a part of that slice .. The part is empty for all but a message": the part that an answer names
 abbrev pub partWith : Scan → List ℕ → List ℕ
 partWith (undecided n) xs = []
 partWith (decided damagedHeader n r) xs = []
@@ -85,6 +85,6 @@ partWith (decided forbidden n r) xs = []
 partWith (decided damagedPayload n r) xs = []
 partWith (decided (message type seq len) n r) xs = take len (drop (n + headerLength) xs)
 
--- the payload of the first item
+-- the payload of the first item of a list of bytes
 unfoldable pub payloadOf : List ℕ → List ℕ
 payloadOf xs = partWith (scan xs) xs

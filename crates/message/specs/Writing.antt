@@ -1,17 +1,17 @@
 -- Document 01, "The writer places a message at a given place in a lent buffer": what it answers, and the buffer afterwards.
-use Prim.Native.Nat.{ℕ, _+_, _≤_}
+use Prim.Native.Nat.{ℕ, _+_}
 use mathlib.Core.Bool.{not, cond as if}
 use mathlib.Core.List.{List, _++_}
 use lib.Dec.{ltb}
 use lib.ListN.{length, take, drop}
-use Rattle.message.specs.Bytes.{headerLength, total, maxLen, writable}
+use Rattle.message.specs.Bytes.{headerLength, total, writable}
 
 -- "it answers the length written", or a refusal's number
 pub data Answer : Type 0 where
   accepted : (length : ℕ) → Answer
   refused : (number : ℕ) → Answer
 
--- "7: forbidden header, or NAK with SEQ not 0", "6: place plus 10 + LEN past the buffer's end (after 7)"
+-- 7, "forbidden header, or NAK with SEQ not 0"; 6, "place plus 10 + LEN past the buffer's end (after 7)"
 unfoldable pub written : (size place type seq len : ℕ) → Answer
 written size place type seq len =
     if (not (writable type len seq)) (refused 7)
@@ -30,8 +30,3 @@ after (refused n) place bytes buffer = buffer
 -- the payload of a message at a place, where it stands in the buffer already
 abbrev pub payloadAt : ℕ → ℕ → List ℕ → List ℕ
 payloadAt place len buffer = take len (drop (place + headerLength) buffer)
-
--- a message that neither number refuses: what the functions below the writer ask
-pub record Fitting (size place len : ℕ) : Type 0 where
-  pub short : len ≤ maxLen
-  pub room : place + total len ≤ size

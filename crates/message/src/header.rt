@@ -1,16 +1,17 @@
 // The fixed parts of a message, and which headers are allowed (document 01, "Bytes on the line").
 ghost use mathlib.Core.Path.{_≡_};
 ghost use mathlib.Core.Bool.{_||_};
+ghost use Prim.Native.Nat.{_^_, _<_};
 ghost use lib.Dec.{eqb};
-ghost use Rattle.message.specs.Bytes.{allowed, writable};
+ghost use Rattle.message.specs.Bytes.{total, allowed, writable};
 use crate::Seq;
 
-// SYN: what every message opens with.
+// SYN: the two bytes that every message opens with.
 pub const SYN: [u8; 2] = *b"\xAA\x55";
 
 pub const SYN_LENGTH: usize = 2;
 
-// TYPE.
+// The values of TYPE.
 pub const NAK: u8 = 0x04;
 
 pub const ACK: u8 = 0x40;
@@ -19,14 +20,25 @@ pub const DATA_SEQ: u8 = 0x80;
 
 pub const DATA_NSQ: u8 = 0x00;
 
-// The most bytes that a data frame's payload has.
+// The upper end of LEN, in bytes.
 pub const MAX_LEN: usize = 256;
 
-// SYN, TYPE, LEN, SEQ and their checksum, in bytes.
-pub const HEADER: usize = 8;
+// TYPE, LEN and SEQ, in bytes.
+pub const FIELDS_LENGTH: usize = 4;
 
-// The header and the payload's checksum, in bytes.
-pub const AROUND: usize = 10;
+// SYN, those fields and their checksum, in bytes.
+pub const HEADER_LENGTH: usize = 8;
+
+// A message beside its payload, in bytes: the header and the payload's checksum, which is there also when LEN is 0.
+pub const OVERHEAD: usize = 10;
+
+// The bytes of a message with this LEN. Only for this crate: a LEN of 16 bits is asked for, so that the sum fits.
+pub(crate) fn total_length(len: usize) -> usize
+    requires { ⌜ len < 2 ^ 16 ⌝ }
+    ensures { λ r. ⌜ r ≡ total len ⌝ }
+{
+    OVERHEAD + len
+}
 
 // Whether a header with this TYPE and LEN is allowed.
 pub fn is_allowed(kind: u8, len: usize) -> bool

@@ -8,13 +8,13 @@ ghost use Rattle.message.specs.Bytes.{fromLe16, headerLength, total};
 ghost use Rattle.message.specs.Items.{stands, dropped, lenIn, fieldsIn, headerChecksumIn, payloadIn, payloadChecksumIn, rules, scan, partWith};
 ghost use Rattle.message.specs.Promises.{scanOf};
 use crate::Seq;
-use crate::header::AROUND;
-use crate::header::HEADER;
+use crate::header::HEADER_LENGTH;
 use crate::header::SYN;
 use crate::header::SYN_LENGTH;
 use crate::header::is_allowed;
+use crate::header::total_length;
 
-// An item.
+// An item, by 01's names.
 pub enum Item {
     DamagedHeader,
     Forbidden,
@@ -22,7 +22,7 @@ pub enum Item {
     Message { kind: u8, seq: Seq, len: usize },
 }
 
-// The first item, with the bytes dropped before it and the bytes removed with it; or none yet.
+// What the bytes say so far: the first item with the bytes dropped before it and the bytes removed with it, or no item yet.
 pub enum Reading {
     Undecided {
         dropped: usize,
@@ -34,7 +34,7 @@ pub enum Reading {
     },
 }
 
-// The first item of the bytes.
+// The first item of the bytes, by the six rules.
 pub fn read(bytes: &[u8]) -> Reading
     ensures { λ r. ⌜ scanOf r ≡ scan (now (bytes .entry)) ⌝ }
 {
@@ -42,7 +42,8 @@ pub fn read(bytes: &[u8]) -> Reading
     apply_rules(&bytes[dropped..], dropped)
 }
 
-// The payload of what was read in the bytes, as a part of them: empty for all but a message.
+// The payload of what `read` found in these bytes, as a part of them and no copy: empty for all but a message.
+// Ruled out: a part that begins within the header, and the payload of a damaged message.
 pub fn payload(bytes: &[u8], reading: Reading) -> &[u8]
     ensures { λ r. ⌜ now r ≡ partWith (scanOf reading) (now (bytes .entry)) ⌝ }
 {
@@ -100,7 +101,7 @@ fn syn_stands(rest: &[u8]) -> bool
 fn apply_rules(rest: &[u8], dropped: usize) -> Reading
     ensures { λ r. ⌜ scanOf r ≡ rules dropped (now (rest .entry)) ⌝ }
 {
-    if rest.len() < HEADER {
+    if rest.len() < HEADER_LENGTH {
         return Reading::Undecided { dropped };
     }
     let sound = header_is_sound(rest);
@@ -121,7 +122,7 @@ fn apply_rules(rest: &[u8], dropped: usize) -> Reading
             removed: SYN_LENGTH,
         };
     }
-    let total = AROUND + len;
+    let total = total_length(len);
     if rest.len() < total {
         return Reading::Undecided { dropped };
     }
@@ -129,7 +130,7 @@ fn apply_rules(rest: &[u8], dropped: usize) -> Reading
         return Reading::Decided {
             item: Item::DamagedPayload,
             dropped,
-            removed: SYN_LENGTH,
+            removed: SYN_LENGTH, // the search goes on behind SYN, and not behind the message
         };
     }
     Reading::Decided {
@@ -156,8 +157,8 @@ fn payload_is_sound(rest: &[u8], len: usize) -> bool
     requires { ⌜ (len ≡ lenIn (now rest)) × (total len ≤ length (now rest)) ⌝ }
     ensures { λ r. ⌜ r ≡ eqb (payloadChecksumIn (now (rest .entry))) (checksumOf (payloadIn (now (rest .entry)))) ⌝ }
 {
-    let end = HEADER + len;
-    le16_at(rest, end) == checksum::checksum(&rest[HEADER..end])
+    let end = HEADER_LENGTH + len;
+    le16_at(rest, end) == checksum::checksum(&rest[HEADER_LENGTH..end])
 }
 
 // The 16-bit number at a place.
@@ -172,13 +173,13 @@ fn le16_at(bytes: &[u8], at: usize) -> u16
 fn after_header(bytes: &[u8], place: usize, len: usize) -> &[u8]
     ensures { λ r. ⌜ now r ≡ take len (drop (place + headerLength) (now (bytes .entry))) ⌝ }
 {
-    if bytes.len() < HEADER {
+    if bytes.len() < HEADER_LENGTH {
         return &bytes[..0];
     }
-    if bytes.len() - HEADER < place {
+    if bytes.len() - HEADER_LENGTH < place {
         return &bytes[..0];
     }
-    let rest = &bytes[place + HEADER..];
+    let rest = &bytes[place + HEADER_LENGTH..];
     if rest.len() < len {
         return rest;
     }

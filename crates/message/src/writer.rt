@@ -1,28 +1,33 @@
 // The message writer (document 01, "Bytes on the line").
 ghost use mathlib.Core.Path.{_≡_};
+ghost use mathlib.Core.Bool.{not};
 ghost use Prim.Native.Nat.{_+_, _≤_};
 ghost use lib.Dec.{ltb};
 ghost use lib.ListN.{length, take};
 ghost use Rattle.checksum.specs.Checksum.{checksumOf};
 ghost use Rattle.message.specs.Bytes.{le16, fields, header, headerLength, body, message, total, maxLen};
-ghost use Rattle.message.specs.Writing.{written, placed, payloadAt, Fitting};
+ghost use Rattle.message.specs.Writing.{written, placed, payloadAt};
 ghost use Rattle.message.specs.Promises.{answerOf, Wrote};
 use crate::Seq;
-use crate::header::AROUND;
-use crate::header::HEADER;
+use crate::header::FIELDS_LENGTH;
+use crate::header::HEADER_LENGTH;
+use crate::header::OVERHEAD;
 use crate::header::SYN;
+use crate::header::SYN_LENGTH;
 use crate::header::is_writable;
+use crate::header::total_length;
 
-// What a writer answers.
+// What a writer answers: the message's length, refusal 7 or refusal 6.
 pub enum Written {
-    Length(usize), // the message's length
-    Forbidden, // refusal 7
-    NoRoom, // refusal 6
+    Length(usize),
+    Forbidden,
+    NoRoom,
 }
 
-// Places a message at a place of the buffer, and answers its length. The other bytes stay, and a refusal leaves all of them.
+// Places a message at a place of the buffer, and answers its length. All other bytes stay; a refusal leaves every byte.
 pub fn write(buffer: &mut [u8], place: usize, kind: u8, seq: Seq, payload: &[u8]) -> Written
-    ensures { λ r. ⌜ Wrote r place kind (seq .0) (length (now (payload .entry))) (now (payload .entry)) (now (buffer .entry)) (now (buffer .exit)) ⌝ }
+    ensures { λ r. ⌜ Wrote r place kind (seq .0) (length (now (payload .entry))) (now (payload .entry))
+        (now (buffer .entry)) (now (buffer .exit)) ⌝ }
 {
     let len = payload.len();
     let answer = answer_to(buffer.len(), place, kind, seq, len);
@@ -33,9 +38,10 @@ pub fn write(buffer: &mut [u8], place: usize, kind: u8, seq: Seq, payload: &[u8]
     answer
 }
 
-// The same for a payload of len bytes that stands in its place already, after the room for the header.
+// The same for a payload of len bytes that stands in its place already, behind the room for the header.
 pub fn write_around(buffer: &mut [u8], place: usize, kind: u8, seq: Seq, len: usize) -> Written
-    ensures { λ r. ⌜ Wrote r place kind (seq .0) len (payloadAt place len (now (buffer .entry))) (now (buffer .entry)) (now (buffer .exit)) ⌝ }
+    ensures { λ r. ⌜ Wrote r place kind (seq .0) len (payloadAt place len (now (buffer .entry)))
+        (now (buffer .entry)) (now (buffer .exit)) ⌝ }
 {
     let answer = answer_to(buffer.len(), place, kind, seq, len);
     let Written::Length(_) = answer else {
@@ -47,20 +53,22 @@ pub fn write_around(buffer: &mut [u8], place: usize, kind: u8, seq: Seq, len: us
 
 // The message at its place, where it fits: the buffer from there on is lent to the header's and the payload's writers.
 fn put(buffer: &mut [u8], place: usize, kind: u8, seq: Seq, payload: &[u8])
-    requires { ⌜ Fitting (length (now buffer)) place (length (now payload)) ⌝ }
+    requires { ⌜ (length (now payload) ≤ maxLen) × (place + total (length (now payload)) ≤ length (now buffer)) ⌝ }
     ensures { λ _. ⌜ now (buffer .exit) ≡ placed place (message kind (seq .0) (now (payload .entry))) (now (buffer .entry)) ⌝ }
 {
     let len = payload.len();
     write_header(&mut buffer[place..], kind, len, seq);
-    write_body(&mut buffer[place + HEADER..], payload);
+    write_body(&mut buffer[place + HEADER_LENGTH..], payload);
 }
 
+// The same around a payload that stands there.
 fn put_around(buffer: &mut [u8], place: usize, kind: u8, seq: Seq, len: usize)
-    requires { ⌜ Fitting (length (now buffer)) place len ⌝ }
-    ensures { λ _. ⌜ now (buffer .exit) ≡ placed place (message kind (seq .0) (payloadAt place len (now (buffer .entry)))) (now (buffer .entry)) ⌝ }
+    requires { ⌜ (len ≤ maxLen) × (place + total len ≤ length (now buffer)) ⌝ }
+    ensures { λ _. ⌜ now (buffer .exit)
+        ≡ placed place (message kind (seq .0) (payloadAt place len (now (buffer .entry)))) (now (buffer .entry)) ⌝ }
 {
     write_header(&mut buffer[place..], kind, len, seq);
-    write_checksum(&mut buffer[place + HEADER..], len);
+    write_checksum(&mut buffer[place + HEADER_LENGTH..], len);
 }
 
 // The answer, with the refusals in the table's order.
@@ -68,31 +76,31 @@ fn answer_to(size: usize, place: usize, kind: u8, seq: Seq, len: usize) -> Writt
     ensures { λ r. ⌜ answerOf r ≡ written size place kind (seq .0) len ⌝ }
 {
     let sound = is_writable(kind, len, seq);
-    let past = is_past(size, place, len);
+    let fits = has_room(size, place, len);
     if !sound {
         return Written::Forbidden;
     }
-    if past {
+    if !fits {
         return Written::NoRoom;
     }
-    Written::Length(AROUND + len)
+    Written::Length(total_length(len))
 }
 
-// Whether place + 10 + len is past the size, as a sum of whole numbers.
-fn is_past(size: usize, place: usize, len: usize) -> bool
-    ensures { λ r. ⌜ r ≡ ltb size (place + total len) ⌝ }
+// Whether place + 10 + len is not past the size, as a sum of whole numbers.
+fn has_room(size: usize, place: usize, len: usize) -> bool
+    ensures { λ r. ⌜ r ≡ not (ltb size (place + total len)) ⌝ }
 {
     if size < place {
-        return true;
+        return false;
     }
     let room = size - place;
-    if room < AROUND {
-        return true;
+    if room < OVERHEAD {
+        return false;
     }
-    if room - AROUND < len {
-        return true;
+    if room - OVERHEAD < len {
+        return false;
     }
-    false
+    true
 }
 
 // The header, at the front of the buffer.
@@ -102,8 +110,8 @@ fn write_header(buffer: &mut [u8], kind: u8, len: usize, seq: Seq)
 {
     let syn = SYN;
     bytes::copy(&syn, buffer);
-    write_fields(&mut buffer[2..], kind, len, seq);
-    write_checksum(&mut buffer[2..], 4);
+    write_fields(&mut buffer[SYN_LENGTH..], kind, len, seq);
+    write_checksum(&mut buffer[SYN_LENGTH..], FIELDS_LENGTH);
 }
 
 // TYPE, LEN and SEQ, at the front of the buffer.

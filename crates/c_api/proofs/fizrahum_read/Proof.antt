@@ -1,3 +1,4 @@
+-- `c_api::fizrahum_read` meets its contract: the numbers of what `read` found.
 use mathlib.Core.Path.{_∙_, ap}
 use native.Mathlib.Omega.{arith}
 use borrow.Author.Needs.{needs}

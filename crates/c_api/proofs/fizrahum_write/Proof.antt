@@ -1,3 +1,4 @@
+-- `c_api::fizrahum_write` meets its contract: the promise of `write`, its answer as a number.
 use Prim.Native.Nat.{ℕ}
 use mathlib.Core.List.{List}
 use mathlib.Core.Path.{_≡_, ap, _∙_}

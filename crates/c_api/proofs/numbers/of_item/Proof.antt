@@ -1,3 +1,4 @@
+-- `c_api::numbers::of_item` meets its contract: by the item that was told.
 use Prim.Native.Nat.{ℕ}
 use mathlib.Core.Path.{_≡_, refl}
 use native.Mathlib.Omega.{arith}
@@ -10,7 +11,8 @@ use Rattle.c_api.proofs.numbers.of_item.Statement.{statement}
 use Rattle.c_api.proofs.numbers.of_item.Tie as tie
 
 -- the numbers of an item that is told
-told : (i j : Item) (d r : ℕ) (n : Numbers) → i ≡ j → n ≡ numbersOf (decided (itemOf j) d r) → n ≡ numbersOf (decided (itemOf i) d r)
+told : (i j : Item) (d r : ℕ) (n : Numbers) → i ≡ j → n ≡ numbersOf (decided (itemOf j) d r)
+    → n ≡ numbersOf (decided (itemOf i) d r)
 told i j d r n e h = rw e h
 
 enum-told : tie.Need-enum-told

@@ -1,3 +1,4 @@
+-- `c_api::numbers::of_reading` meets its contract: by the reading that was told.
 use mathlib.Core.Path.{_≡_}
 use borrow.Author.Needs.{needs}
 use Rattle.message.specs.Promises.{scanOf}

@@ -1,3 +1,4 @@
+-- `message::header::is_allowed` meets its contract: each `return` is a case of `allowed`.
 use Prim.Native.Nat.{ℕ, _≤_, _<_}
 use mathlib.Core.Bool.{true, false, _||_, _&&_}
 use mathlib.Core.Path.{_≡_, sym, _∙_}
@@ -14,7 +15,8 @@ control : (t n : ℕ) → (eqb t ack || eqb t nak) ≡ true → allowed t n ≡ 
 unfolding allowed
 control t n h = rw h
 
-dataFrame : (t n : ℕ) → (eqb t ack || eqb t nak) ≡ false → (eqb t dataSeq || eqb t dataNsq) ≡ true → allowed t n ≡ (leb 1 n && leb n maxLen)
+dataFrame : (t n : ℕ) → (eqb t ack || eqb t nak) ≡ false → (eqb t dataSeq || eqb t dataNsq) ≡ true
+    → allowed t n ≡ (leb 1 n && leb n maxLen)
 unfolding allowed
 dataFrame t n h k = rw (h, k)
 
@@ -38,13 +40,19 @@ is-one-of-requires-2 : tie.Need-is-one-of-requires-2
 is-one-of-requires-2 c κs = search needs
 
 returns-2 : tie.Need-returns-2
-returns-2 c = filled _ _ (sym (c .before .before .before .before .is-one-of .ensures) ∙ c .before .before .before .if1 .left) (sym (c .before .before .is-one-of2 .ensures) ∙ c .before .if2 .taken) (omega arith)
+returns-2 c =
+    filled _ _ (sym (c .before .before .before .before .is-one-of .ensures) ∙ c .before .before .before .if1 .left)
+    (sym (c .before .before .is-one-of2 .ensures) ∙ c .before .if2 .taken) (omega arith)
 
 returns-3 : tie.Need-returns-3
-returns-3 c = empty _ _ (sym (c .before .before .before .before .is-one-of .ensures) ∙ c .before .before .before .if1 .left) (sym (c .before .before .is-one-of2 .ensures) ∙ c .before .if2 .taken) (omega arith)
+returns-3 c =
+    empty _ _ (sym (c .before .before .before .before .is-one-of .ensures) ∙ c .before .before .before .if1 .left)
+    (sym (c .before .before .is-one-of2 .ensures) ∙ c .before .if2 .taken) (omega arith)
 
 returns-4 : tie.Need-returns-4
-returns-4 c = other _ _ (sym (c .before .before .before .is-one-of .ensures) ∙ c .before .before .if1 .left) (sym (c .before .is-one-of2 .ensures) ∙ c .if2 .left)
+returns-4 c =
+    other _ _ (sym (c .before .before .before .is-one-of .ensures) ∙ c .before .before .if1 .left)
+    (sym (c .before .is-one-of2 .ensures) ∙ c .if2 .left)
 
 pub is-allowed-spec : {M : Type 1} → statement M
 is-allowed-spec =

@@ -1,3 +1,4 @@
+-- `message::header::is_one_of` meets its contract: the first test decides, or the second.
 use borrow.Author.Tests.{eq-eqb, ne-eqb}
 use Rattle.message.proofs.header.is_one_of.Statement.{statement}
 use Rattle.message.proofs.header.is_one_of.Tie as tie

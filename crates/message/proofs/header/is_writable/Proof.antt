@@ -1,3 +1,4 @@
+-- `message::header::is_writable` meets its contract: each `return` is a case of `writable`.
 use Prim.Native.Nat.{ℕ}
 use mathlib.Core.Bool.{true, false, not}
 use mathlib.Core.Path.{_≡_, sym, _∙_}
@@ -28,7 +29,8 @@ returns : tie.Need-returns
 returns c = no-nak _ _ _ (sym (c .before .before .is-allowed .ensures) ∙ c .before .if1 .taken) (c .if2 .taken)
 
 returns-2 : tie.Need-returns-2
-returns-2 c = a-nak _ _ _ (sym (c .before .before .before .is-allowed .ensures) ∙ c .before .before .if1 .taken) (c .before .if2 .left)
+returns-2 c =
+    a-nak _ _ _ (sym (c .before .before .before .is-allowed .ensures) ∙ c .before .before .if1 .taken) (c .before .if2 .left)
 
 returns-3 : tie.Need-returns-3
 returns-3 c = forbidden _ _ _ (sym (c .before .is-allowed .ensures) ∙ c .if1 .left)

@@ -1,4 +1,5 @@
-use Prim.Native.Nat.{ℕ, _+_, _-_, _≤_}
+-- `message::reader::after_header` meets its contract: past the end there is nothing, and near it less.
+use Prim.Native.Nat.{ℕ, _+_, _≤_}
 use mathlib.Core.List.{List, []}
 use mathlib.Core.Path.{_≡_, sym}
 use native.Mathlib.Omega.{arith}
@@ -7,7 +8,7 @@ use lib.Seq.{take-all, take-nil, length-take-le}
 use borrow.Author.Needs.{needs}
 use denote.Ref.{now}
 use Rattle.message.specs.Bytes.{headerLength}
-use Rattle.message.proofs.Buffer.{tail}
+use Rattle.message.proofs.Buffer.{lentFrom, tail}
 use Rattle.message.proofs.reader.after_header.Statement.{statement}
 use Rattle.message.proofs.reader.after_header.Tie as tie
 
@@ -16,7 +17,7 @@ beyond : (n k : ℕ) (l : List ℕ) → length l ≤ k → [] ≡ take n (drop k
 beyond n k l h = rw (drop-of-length-le l {i = k} h, take-nil n)
 
 -- all that stands from a place on, where it is no more than asked for
-all : (n k : ℕ) (l : List ℕ) → length l ≤ k + n → take (length l - k) (drop k l) ≡ take n (drop k l)
+all : (n k : ℕ) (l : List ℕ) → length l ≤ k + n → lentFrom k l ≡ take n (drop k l)
 all n k l h = rw (tail k l, take-all n (drop k l) (simp length-drop (omega arith)))
 
 slice-aggregate-result : tie.Need-slice-aggregate-result
@@ -47,7 +48,8 @@ part-rest-end : tie.Need-part-rest-end
 part-rest-end c = search needs
 
 returns-3 : tie.Need-returns-3
-returns-3 c = let a = c .before .before .before .before .args in
+returns-3 c =
+    let a = c .before .before .before .before .args in
     all (a .len) (a .place + headerLength) (now (a .bytes)) (omega (arith, simp (length-take, length-drop) at (c .if3 .taken)))
 
 slice-aggregate-result-3 : tie.Need-slice-aggregate-result-3

@@ -1,3 +1,4 @@
+-- `message::reader::apply_rules` meets its contract: each `return` is a case of `rules`, with the tests that led to it.
 use mathlib.Core.Path.{sym, _∙_}
 use native.Mathlib.Omega.{arith}
 use borrow.Author.Needs.{needs}
@@ -26,60 +27,79 @@ is-allowed-requires : tie.Need-is-allowed-requires
 is-allowed-requires c κs = search needs
 
 returns-2 : tie.Need-returns-2
-returns-2 c = let a = c .before .before .before .before .before .before .before .args in
-    let sound = c .before .before .before .before .header-is-sound in
-    sym (rule-2 (a .dropped) (now (a .rest)) (omega arith) (sym (sound .ensures) ∙ not-true (sound .result) (c .if2 .taken)))
+returns-2 c =
+    let fine = c .before in
+    let len = fine .before in
+    let sound = len .before .before in
+    let a = sound .before .before .before .args in
+    sym
+    (rule-2 (a .dropped) (now (a .rest)) (omega arith)
+    (sym (sound .header-is-sound .ensures) ∙ not-true (sound .header-is-sound .result) (c .if2 .taken)))
 
 returns-3 : tie.Need-returns-3
-returns-3 c = let a = c .before .before .before .before .before .before .before .before .args in
-    let sound = c .before .before .before .before .before .header-is-sound in
-    let len = c .before .before .before .le16-at in
-    let fine = c .before .before .is-allowed in
+returns-3 c =
+    let fine = c .before .before in
+    let len = fine .before in
+    let sound = len .before .before in
+    let a = sound .before .before .before .args in
     sym
-    (rule-3 (a .dropped) (now (a .rest)) (omega arith) (sym (sound .ensures) ∙ not-false (sound .result) (c .before .if2 .left))
-    (rw (len .ensures) at (sym (fine .ensures) ∙ not-true (fine .result) (c .if3 .taken))))
+    (rule-3 (a .dropped) (now (a .rest)) (omega arith)
+    (sym (sound .header-is-sound .ensures) ∙ not-false (sound .header-is-sound .result) (c .before .if2 .left))
+    (rw (len .le16-at .ensures) at (sym (fine .is-allowed .ensures) ∙ not-true (fine .is-allowed .result) (c .if3 .taken))))
 
-add-total : tie.Need-add-total
-add-total c = search needs
+total-length-requires : tie.Need-total-length-requires
+total-length-requires c κs = search needs
 
 returns-4 : tie.Need-returns-4
-returns-4 c = let a = c .before .before .before .before .before .before .before .before .before .args in
-    let sound = c .before .before .before .before .before .before .header-is-sound in
-    let len = c .before .before .before .before .le16-at in
-    let fine = c .before .before .before .is-allowed in
+returns-4 c =
+    let passed = c .before .before in
+    let fine = passed .before .before in
+    let len = fine .before in
+    let sound = len .before .before in
+    let a = sound .before .before .before .args in
     sym
-    (rule-4 (a .dropped) (now (a .rest)) (omega arith) (sym (sound .ensures) ∙ not-false (sound .result) (c .before .before .if2 .left))
-    (rw (len .ensures) at (sym (fine .ensures) ∙ not-false (fine .result) (c .before .if3 .left)))
-    (omega (arith, len .ensures)))
+    (rule-4 (a .dropped) (now (a .rest)) (omega arith)
+    (sym (sound .header-is-sound .ensures) ∙ not-false (sound .header-is-sound .result) (passed .before .if2 .left))
+    (rw (len .le16-at .ensures) at (sym (fine .is-allowed .ensures) ∙ not-false (fine .is-allowed .result) (passed .if3 .left)))
+    (omega (arith, len .le16-at .ensures, c .before .total-length .ensures)))
 
 payload-is-sound-requires : tie.Need-payload-is-sound-requires
 payload-is-sound-requires c κs = search needs
 
 returns-5 : tie.Need-returns-5
-returns-5 c = let a = c .before .before .before .before .before .before .before .before .before .before .before .args in
-    let sound = c .before .before .before .before .before .before .before .before .header-is-sound in
-    let len = c .before .before .before .before .before .before .le16-at in
-    let fine = c .before .before .before .before .before .is-allowed in
-    let body = c .before .payload-is-sound in
+returns-5 c =
+    let body = c .before in
+    let passed = body .before .before .before in
+    let fine = passed .before .before in
+    let len = fine .before in
+    let sound = len .before .before in
+    let a = sound .before .before .before .args in
     sym
-    (rule-5 (a .dropped) (now (a .rest)) (omega arith) (sym (sound .ensures) ∙ not-false (sound .result) (c .before .before .before .before .if2 .left))
-    (rw (len .ensures) at (sym (fine .ensures) ∙ not-false (fine .result) (c .before .before .before .if3 .left)))
-    (omega (arith, len .ensures)) (sym (body .ensures) ∙ not-true (body .result) (c .if5 .taken)))
+    (rule-5 (a .dropped) (now (a .rest)) (omega arith)
+    (sym (sound .header-is-sound .ensures) ∙ not-false (sound .header-is-sound .result) (passed .before .if2 .left))
+    (rw (len .le16-at .ensures) at (sym (fine .is-allowed .ensures) ∙ not-false (fine .is-allowed .result) (passed .if3 .left)))
+    (omega (arith, len .le16-at .ensures, body .before .before .total-length .ensures))
+    (sym (body .payload-is-sound .ensures) ∙ not-true (body .payload-is-sound .result) (c .if5 .taken)))
 
 shared-slice-read-t11 : tie.Need-shared-slice-read-t11
 shared-slice-read-t11 c = search needs
 
 returns-6 : tie.Need-returns-6
-returns-6 c = let a = c .before .before .before .before .before .before .before .before .before .before .before .before .args in
-    let sound = c .before .before .before .before .before .before .before .before .before .header-is-sound in
-    let len = c .before .before .before .before .before .before .before .le16-at in
-    let fine = c .before .before .before .before .before .before .is-allowed in
-    let body = c .before .before .payload-is-sound in
-    rw (len .ensures)
+returns-6 c =
+    let body = c .before .before in
+    let count = body .before .before in
+    let passed = count .before in
+    let fine = passed .before .before in
+    let len = fine .before in
+    let sound = len .before .before in
+    let a = sound .before .before .before .args in
+    rw (count .total-length .ensures, len .le16-at .ensures)
     (sym
-    (rule-6 (a .dropped) (now (a .rest)) (omega arith) (sym (sound .ensures) ∙ not-false (sound .result) (c .before .before .before .before .before .if2 .left))
-    (rw (len .ensures) at (sym (fine .ensures) ∙ not-false (fine .result) (c .before .before .before .before .if3 .left)))
-    (omega (arith, len .ensures)) (sym (body .ensures) ∙ not-false (body .result) (c .before .if5 .left))))
+    (rule-6 (a .dropped) (now (a .rest)) (omega arith)
+    (sym (sound .header-is-sound .ensures) ∙ not-false (sound .header-is-sound .result) (passed .before .if2 .left))
+    (rw (len .le16-at .ensures) at (sym (fine .is-allowed .ensures) ∙ not-false (fine .is-allowed .result) (passed .if3 .left)))
+    (omega (arith, len .le16-at .ensures, count .total-length .ensures))
+    (sym (body .payload-is-sound .ensures) ∙ not-false (body .payload-is-sound .result) (c .before .if5 .left))))
 
 pub apply-rules-spec : {M : Type 1} → statement M
 apply-rules-spec =
@@ -93,7 +113,7 @@ apply-rules-spec =
     is-allowed-requires
     returns-2
     returns-3
-    add-total
+    total-length-requires
     returns-4
     payload-is-sound-requires
     returns-5

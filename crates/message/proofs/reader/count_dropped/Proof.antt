@@ -1,13 +1,15 @@
-use Prim.Native.Nat.{_+_, _-_, _≤_, _<_, ℕ}
+-- `message::reader::count_dropped` meets its contract. The invariant: what is dropped of the whole is what was passed and what is
+-- dropped of the rest. The measure is the length of the rest.
+use Prim.Native.Nat.{_+_, _≤_, _<_, ℕ}
 use mathlib.Core.Bool.{false}
 use mathlib.Core.List.{List}
 use mathlib.Core.Path.{_≡_, sym, _∙_}
 use native.Mathlib.Omega.{arith}
-use lib.ListN.{length, take, drop, length-take, length-drop}
+use lib.ListN.{length, length-take, length-drop}
 use borrow.Author.Needs.{needs}
 use denote.Ref.{now}
 use Rattle.message.specs.Items.{stands, dropped}
-use Rattle.message.proofs.Buffer.{tail}
+use Rattle.message.proofs.Buffer.{lentFrom, tail}
 use Rattle.message.proofs.Dropping.{dropped-none, dropped-here, dropped-next}
 use Rattle.message.proofs.reader.count_dropped.Statement.{statement}
 use Rattle.message.proofs.reader.count_dropped.Tie as tie
@@ -16,7 +18,7 @@ abbrev Inv-loop : tie.InvT-loop
 Inv-loop bytes rest₀ rest = (length rest ≤ length bytes) × (dropped bytes + length rest ≡ length bytes + dropped rest)
 
 -- a byte that does not stand there goes
-step : (b s : List ℕ) → 0 < length s → stands s ≡ false → Inv-loop b b s → Inv-loop b b (take (length s - 1) (drop 1 s))
+step : (b s : List ℕ) → 0 < length s → stands s ≡ false → Inv-loop b b s → Inv-loop b b (lentFrom 1 s)
 step b s some h inv = rw (tail 1 s) (simp length-drop (omega (arith, dropped-next s some h)))
 
 abbrev μ-loop : tie.MeasureT-loop
@@ -32,7 +34,8 @@ sub-result : tie.Need-sub-result Inv-loop μ-loop
 sub-result c = omega arith
 
 returns : tie.Need-returns Inv-loop μ-loop
-returns c = let b = c .before .before .before .before .before .args .bytes in
+returns c =
+    let b = c .before .before .before .before .before .args .bytes in
     let rest = c .before .before .before .loop .rest in
     omega (arith, dropped-here (now rest) (sym (c .before .syn-stands .ensures) ∙ c .if1 .taken))
 
@@ -49,7 +52,9 @@ loop-less : tie.Need-loop-less Inv-loop μ-loop
 loop-less c = simp (length-take, length-drop) (omega arith)
 
 loop-again : tie.Need-loop-again Inv-loop μ-loop
-loop-again c = step _ _ (omega arith) (sym (c .before .before .syn-stands .ensures) ∙ c .before .if1 .left) (c .before .before .before .before .loop .inv)
+loop-again c =
+    step _ _ (omega arith) (sym (c .before .before .syn-stands .ensures) ∙ c .before .if1 .left)
+    (c .before .before .before .before .loop .inv)
 
 returns-2 : tie.Need-returns-2 Inv-loop μ-loop
 returns-2 c = omega (arith, dropped-none (now (c .before .loop .rest)) (omega arith))

@@ -1,3 +1,4 @@
+-- `message::reader::header_is_sound` meets its contract: what is read and what is computed.
 use borrow.Author.Needs.{needs}
 use Rattle.message.proofs.reader.header_is_sound.Statement.{statement}
 use Rattle.message.proofs.reader.header_is_sound.Tie as tie

@@ -1,3 +1,4 @@
+-- `message::reader::le16_at` meets its contract: two bytes fit 16 bits.
 use Prim.Native.Nat.{_+_}
 use native.Mathlib.Omega.{arith}
 use borrow.Author.Needs.{needs}
@@ -23,7 +24,13 @@ mul-result : tie.Need-mul-result
 mul-result c = omega (arith, c .shared-slice-known2 .given (c .before .before .args .at + 1))
 
 add-result-2 : tie.Need-add-result-2
-add-result-2 c = omega (arith, c .shared-slice-known2 .given (c .before .before .args .at), c .shared-slice-known2 .given (c .before .before .args .at + 1))
+add-result-2 c =
+    omega (
+      arith,
+      c .shared-slice-known2 .given (c .before .before .args .at),
+      c .shared-slice-known2 .given
+          (c .before .before .args .at + 1),
+    )
 
 returns : tie.Need-returns
 returns c = search needs

@@ -1,3 +1,4 @@
+-- `message::reader::payload` meets its contract: by the item that was told.
 use Prim.Native.Nat.{_+_, ℕ}
 use mathlib.Core.List.{List, [], _∷_}
 use mathlib.Core.Logic.{⊎-elim}
@@ -51,7 +52,8 @@ slice-aggregate-result-2 : tie.Need-slice-aggregate-result-2
 slice-aggregate-result-2 c = search needs
 
 returns-2 : tie.Need-returns-2
-returns-2 c = let a = c .before .before .before .before .before .before .args in
+returns-2 c =
+    let a = c .before .before .before .before .before .before .args in
     let told = c .before .before .before .reading .given in
     rw (told .1) (none (told .0 .0) (told .0 .1 .0) (told .0 .1 .1 .0) (now (a .bytes)) (c .before .match2 .keys2))
 
@@ -59,8 +61,10 @@ after-header-requires : tie.Need-after-header-requires
 after-header-requires c κs = search needs
 
 returns-3 : tie.Need-returns-3
-returns-3 c = let a = c .before .before .before .before .before .before .before .before .args in
-    some _ _ _ _ _ _ _ (now (a .bytes)) _ (c .before .before .before .before .before .reading .given .1) (c .before .before .item .given .1) (c .after-header .ensures)
+returns-3 c =
+    let a = c .before .before .before .before .before .before .before .before .args in
+    some _ _ _ _ _ _ _ (now (a .bytes)) _ (c .before .before .before .before .before .reading .given .1)
+    (c .before .before .item .given .1) (c .after-header .ensures)
 
 pub payload-spec : {M : Type 1} → statement M
 payload-spec =

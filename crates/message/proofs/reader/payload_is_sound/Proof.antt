@@ -1,3 +1,4 @@
+-- `message::reader::payload_is_sound` meets its contract: what is read and what is computed, at the header's LEN.
 use Prim.Native.Nat.{ℕ, _+_, _-_}
 use mathlib.Core.List.{List}
 use mathlib.Core.Path.{_≡_}
@@ -38,8 +39,10 @@ checksum-requires : tie.Need-checksum-requires
 checksum-requires c κs = search needs
 
 returns : tie.Need-returns
-returns c = let a = c .before .before .before .before .args in
-    compared (a .len) _ _ (now (a .rest)) (c .before .before .before .before .pre .0) (c .before .before .le16-at .ensures) (c .checksum .ensures)
+returns c =
+    let a = c .before .before .before .before .args in
+    compared (a .len) _ _ (now (a .rest)) (c .before .before .before .before .pre .0) (c .before .before .le16-at .ensures)
+    (c .checksum .ensures)
 
 pub payload-is-sound-spec : {M : Type 1} → statement M
 payload-is-sound-spec =

@@ -1,18 +1,18 @@
-use Prim.Native.Nat.{ℕ, _-_}
+-- `message::reader::read` meets its contract: dropping, then the rules on what is left.
+use Prim.Native.Nat.{ℕ}
 use mathlib.Core.List.{List}
 use mathlib.Core.Path.{_≡_, _∙_}
 use native.Mathlib.Omega.{arith}
-use lib.ListN.{length, take, drop}
 use borrow.Author.Needs.{needs}
 use denote.Ref.{now}
 use Rattle.message.specs.Items.{Scan, dropped, rules, scan}
-use Rattle.message.proofs.Buffer.{tail}
+use Rattle.message.proofs.Buffer.{lentFrom, tail}
 use Rattle.message.proofs.Dropping.{dropped-within}
 use Rattle.message.proofs.reader.read.Statement.{statement}
 use Rattle.message.proofs.reader.read.Tie as tie
 
 -- what the rules say of what is left is what `scan` says of the whole
-whole : (d : ℕ) (xs : List ℕ) (s : Scan) → d ≡ dropped xs → s ≡ rules d (take (length xs - d) (drop d xs)) → s ≡ scan xs
+whole : (d : ℕ) (xs : List ℕ) (s : Scan) → d ≡ dropped xs → s ≡ rules d (lentFrom d xs) → s ≡ scan xs
 unfolding scan
 whole d xs s count h = h ∙ rw (tail d xs, count)
 

@@ -1,3 +1,4 @@
+-- `message::reader::syn_stands` meets its contract: each `return` is a case of `stands`.
 use native.Mathlib.Omega.{arith}
 use borrow.Author.Needs.{needs}
 use denote.Ref.{now}

@@ -1,3 +1,4 @@
+-- `message::writer::put` meets its contract: two loans, one behind the other, leave header and body at their place.
 use native.Mathlib.Omega.{arith}
 use borrow.Author.Needs.{needs}
 use denote.Ref.{now}
@@ -39,10 +40,12 @@ same-length c = search needs
 
 returns : tie.Need-returns
 unfolding message
-returns c = let a = c .before .before .before .before .before .before .before .before .before .before .args in
+returns c =
+    let a = c .before .before .before .before .before .before .before .before .before .before .args in
     let h = c .before .before .before .before .before .before .write-header .ensures in
     let two = length-body (now (a .payload)) in
-    lent-twice (a .place) headerLength _ (now (a .buffer)) _ (length-header (a .kind) _ (a .seq .0)) h (body (now (a .payload))) _ (omega arith) (c .before .before .write-body .ensures)
+    lent-twice (a .place) headerLength _ (now (a .buffer)) _ (length-header (a .kind) _ (a .seq .0)) h (body (now (a .payload))) _
+    (omega arith) (c .before .before .write-body .ensures)
 
 pub put-spec : {M : Type 1} → statement M
 put-spec =

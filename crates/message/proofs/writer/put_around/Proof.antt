@@ -1,35 +1,34 @@
-use Prim.Native.Nat.{ℕ, _+_, _-_, _≤_}
+-- `message::writer::put_around` meets its contract: the header's loan and the checksum's, around a payload that stands there.
+use Prim.Native.Nat.{ℕ, _+_, _≤_}
 use mathlib.Core.List.{List}
 use mathlib.Core.Path.{ap, _∙_, _≡_}
 use native.Mathlib.Omega.{arith}
-use lib.ListN.{length, take, drop, length-take, length-drop}
+use lib.ListN.{length, take, length-take, length-drop}
 use borrow.Author.Needs.{needs}
-use borrow.Rule.Slice.PartMut.{putMid}
 use denote.Ref.{now}
 use Rattle.checksum.specs.Checksum.{checksumOf}
 use Rattle.message.specs.Writing.{placed, payloadAt}
 use Rattle.message.specs.Bytes.{le16, headerLength, header, body, message, total}
-use Rattle.message.proofs.Buffer.{lent-second, lent-after}
+use Rattle.message.proofs.Buffer.{lentFrom, givenBack, lent-second, lent-after}
 use Rattle.message.proofs.Headers.{length-le16, length-header}
 use Rattle.message.proofs.writer.put_around.Statement.{statement}
 use Rattle.message.proofs.writer.put_around.Tie as tie
 
 -- what the two loans leave
-module _ (t q a n : ℕ) (l x : List ℕ) (fits : a + total n ≤ length l)
-    (first : x ≡ placed 0 (header t n q) (take (length l - a) (drop a l))) where
-  left : (y : List ℕ)
-      → y ≡ placed n (le16 (checksumOf (take n (take (length (putMid a (length l - a) l x) - (a + headerLength)) (drop (a + headerLength) (putMid a (length l - a) l x))))))
-      (take (length (putMid a (length l - a) l x) - (a + headerLength)) (drop (a + headerLength) (putMid a (length l - a) l x)))
-      → putMid (a + headerLength) (length (putMid a (length l - a) l x) - (a + headerLength)) (putMid a (length l - a) l x) y
-      ≡ placed a (message t q (payloadAt a n l)) l
-  unfolding message body
-  left y second =
-      let eight = length-header t n q in
-      let two = length-le16 (checksumOf (payloadAt a n l)) in
-      let count : length (take n (drop (a + headerLength) l)) ≡ n = simp (length-take, length-drop) (omega arith) in
-      let shown = lent-second a headerLength (header t n q) l x eight first (omega arith) in
-      let sum = ap (λ (z : List ℕ). placed n (le16 (checksumOf (take n z))) (take (length (putMid a (length l - a) l x) - (a + headerLength)) (drop (a + headerLength) (putMid a (length l - a) l x)))) shown in
-      rw count (lent-after a headerLength (header t n q) l x eight first n (le16 (checksumOf (payloadAt a n l))) y (omega arith) (second ∙ sum))
+left : (t q a n : ℕ) (l x y : List ℕ) → a + total n ≤ length l → x ≡ placed 0 (header t n q) (lentFrom a l)
+    → y ≡ placed n (le16 (checksumOf (take n (lentFrom (a + headerLength) (givenBack a l x)))))
+    (lentFrom (a + headerLength) (givenBack a l x))
+    → givenBack (a + headerLength) (givenBack a l x) y ≡ placed a (message t q (payloadAt a n l)) l
+unfolding message body
+left t q a n l x y fits first second =
+    let eight = length-header t n q in
+    let two = length-le16 (checksumOf (payloadAt a n l)) in
+    let count : length (payloadAt a n l) ≡ n = simp (length-take, length-drop) (omega arith) in
+    let shown = lent-second a headerLength (header t n q) l x eight first (omega arith) in
+    let sum = ap (λ (z : List ℕ). placed n (le16 (checksumOf (take n z))) (lentFrom (a + headerLength) (givenBack a l x))) shown in
+    rw count
+    (lent-after a headerLength (header t n q) l x eight first n (le16 (checksumOf (payloadAt a n l))) y (omega arith)
+    (second ∙ sum))
 
 sub-write-header : tie.Need-sub-write-header
 sub-write-header c = search needs
@@ -62,8 +61,10 @@ same-length : tie.Need-same-length
 same-length c = search needs
 
 returns : tie.Need-returns
-returns c = let a = c .before .before .before .before .before .before .before .before .before .args in
-    left (a .kind) (a .seq .0) (a .place) (a .len) (now (a .buffer)) _ (omega arith) (c .before .before .before .before .before .before .write-header .ensures) _ (c .before .before .write-checksum .ensures)
+returns c =
+    let a = c .before .before .before .before .before .before .before .before .before .args in
+    left (a .kind) (a .seq .0) (a .place) (a .len) (now (a .buffer)) _ _ (omega arith)
+    (c .before .before .before .before .before .before .write-header .ensures) (c .before .before .write-checksum .ensures)
 
 pub put-around-spec : {M : Type 1} → statement M
 put-around-spec =

@@ -1,10 +1,9 @@
-use mathlib.Core.Path.{_∙_}
+-- `message::writer::write_around` meets its contract, as `write` does.
 use lib.ListN.{length}
 use borrow.Author.Needs.{needs}
 use denote.Ref.{now}
 use Rattle.message.specs.Writing.{payloadAt}
-use Rattle.message.specs.Bytes.{message}
-use Rattle.message.proofs.Accepted.{fitting, done, left}
+use Rattle.message.proofs.Accepted.{fitting, wrote-length, wrote-refusal}
 use Rattle.message.proofs.writer.write_around.Statement.{statement}
 use Rattle.message.proofs.writer.write_around.Tie as tie
 
@@ -15,12 +14,15 @@ enum-told : tie.Need-enum-told
 enum-told c = search needs
 
 returns : tie.Need-returns
-returns c = let a = c .before .before .before .args in
+returns c =
+    let a = c .before .before .before .args in
     let r = c .before .answer-to in
-    record { answers = r .ensures; leaves = left (r .result) (a .place) (message (a .kind) (a .seq .0) (payloadAt (a .place) (a .len) (now (a .buffer)))) (now (a .buffer)) (c .match .keys2) }
+    wrote-refusal (r .result) (a .place) (a .kind) (a .seq .0) (a .len) (payloadAt (a .place) (a .len) (now (a .buffer)))
+    (now (a .buffer)) (r .ensures) (c .match .keys2)
 
 put-around-requires : tie.Need-put-around-requires
-put-around-requires c κs = let a = c .before .before .before .before .before .args in
+put-around-requires c κs =
+    let a = c .before .before .before .before .before .args in
     let told = c .before .enum-told .given in
     let r = c .before .before .before .answer-to in
     fitting (r .result) _ (length (now (a .buffer))) (a .place) (a .kind) (a .seq .0) (a .len) (told .1) (r .ensures)
@@ -29,10 +31,13 @@ same-length : tie.Need-same-length
 same-length c = search needs
 
 returns-2 : tie.Need-returns-2
-returns-2 c = let a = c .before .before .before .before .before .before .before .before .args in
+returns-2 c =
+    let a = c .before .before .before .before .before .before .before .before .args in
     let told = c .before .before .before .before .enum-told .given in
     let r = c .before .before .before .before .before .before .answer-to in
-    record { answers = r .ensures; leaves = c .before .before .put-around .ensures ∙ done (r .result) _ (a .place) (message (a .kind) (a .seq .0) (payloadAt (a .place) (a .len) (now (a .buffer)))) (now (a .buffer)) (told .1) }
+    wrote-length (r .result) (a .place) (a .kind) (a .seq .0) (a .len) (payloadAt (a .place) (a .len) (now (a .buffer)))
+    (now (a .buffer)) (r .ensures) _ _ (told .1)
+    (c .before .before .put-around .ensures)
 
 pub write-around-spec : {M : Type 1} → statement M
 write-around-spec =

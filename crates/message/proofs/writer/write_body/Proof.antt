@@ -1,3 +1,4 @@
+-- `message::writer::write_body` meets its contract: the payload is copied, and its checksum placed right after it.
 use Prim.Native.Nat.{ℕ, _+_, _≤_}
 use mathlib.Core.List.{List, _++_}
 use mathlib.Core.Path.{_≡_, _∙_}
@@ -17,7 +18,14 @@ left : (n : ℕ) (p l copied last : List ℕ) → length p + 2 ≤ length l → 
     → last ≡ placed n (le16 (checksumOf (take n copied))) copied → last ≡ placed 0 (body p) l
 unfolding body le16
 left n p l copied last fits count copy put =
-    put ∙ rw (count, copy, take-at (take (length p) p) (drop (length p) l) (length p) (rw (take-length p)), take-length p, front p l)
+    put ∙ rw (
+      count,
+      copy,
+      take-at (take (length p) p) (drop (length p) l) (length p)
+          (rw (take-length p)),
+      take-length p,
+      front p l,
+    )
     (neighbours-front p (le16 (checksumOf p)) l fits)
 
 copy-requires : tie.Need-copy-requires
@@ -30,7 +38,9 @@ same-length : tie.Need-same-length
 same-length c = search needs
 
 returns : tie.Need-returns
-returns c = left _ _ _ _ _ (omega arith) (c .before .before .before .before .before .before .copy .ensures .0) (c .before .before .before .before .before .before .copy .ensures .1) (c .before .before .write-checksum .ensures)
+returns c =
+    left _ _ _ _ _ (omega arith) (c .before .before .before .before .before .before .copy .ensures .0)
+    (c .before .before .before .before .before .before .copy .ensures .1) (c .before .before .write-checksum .ensures)
 
 pub write-body-spec : {M : Type 1} → statement M
 write-body-spec = tie.close (tie.spec copy-requires write-checksum-requires same-length returns)

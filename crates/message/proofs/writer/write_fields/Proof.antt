@@ -1,3 +1,4 @@
+-- `message::writer::write_fields` meets its contract: four stores in a row.
 use Prim.Native.Nat.{_/_, _%_}
 use mathlib.Core.List.{[], _∷_}
 use native.Mathlib.Omega.{arith}
@@ -33,7 +34,8 @@ same-length c = search needs
 
 returns : tie.Need-returns
 unfolding placed fields le16
-returns c = let a = c .args in
+returns c =
+    let a = c .args in
     sets-eq (a .kind ∷ a .len % 256 ∷ a .len / 256 ∷ a .seq .0 ∷ []) (now (a .buffer)) 0 (omega arith)
 
 pub write-fields-spec : {M : Type 1} → statement M

@@ -1,3 +1,4 @@
+-- `message::writer::write_le16` meets its contract: two stores in a row.
 use Prim.Native.Nat.{_/_, _%_}
 use mathlib.Core.List.{[], _∷_}
 use native.Mathlib.Omega.{arith}
