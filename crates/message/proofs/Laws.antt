@@ -2,55 +2,36 @@
 -- what was read is written, and more bytes change nothing of what was decided. Each is shown in the file that its proof cites.
 use Prim.Native.Nat.{ℕ, _+_, _≤_, _<_}
 use mathlib.Core.List.{List, _++_}
-use mathlib.Core.Path.{_≡_, refl, _∙_}
-use native.Mathlib.Omega.{arith}
+use mathlib.Core.Path.{_≡_}
 use lib.ListN.{length, take, drop, getD, take-append-drop}
-use borrow.Author.Tests.{le-ltb}
-use Rattle.message.specs.Bytes as bytes
 use Rattle.message.specs.Bytes.{nak, total}
-use Rattle.message.specs.Items.{Item, message, decided, dropped, scan, partWith, payloadOf}
-use Rattle.message.specs.Writing.{accepted, refused, written, placed, after}
+use Rattle.message.specs.Items.{Item, message, decided, scan, partWith, payloadOf}
+use Rattle.message.specs.Writing.{accepted, refused, written, placed}
 use Rattle.message.specs.Promises.{answerOf, Wrote, scanOf}
 use Rattle.message.specs.declared.reader.Reading.{Reading}
 use Rattle.message.specs.declared.writer.Written.{Written}
 use Rattle.message.specs.declared.writer.Written.the-variants.{Length}
-use Rattle.message.proofs.Accepted.{passed, says-7, says-length}
-use Rattle.message.proofs.Buffer.{from-placed}
-use Rattle.message.proofs.Found.{message-at}
-use Rattle.message.proofs.Headers.{writable-allowed, allowed-writable, nak-not-writable, length-message}
+use Rattle.message.proofs.Accepted.{says-7}
+use Rattle.message.proofs.Headers.{nak-not-writable}
 use Rattle.message.proofs.More as more
-use Rattle.message.proofs.ReadWritten.{scan-message, payload-of-message}
-use Rattle.message.proofs.WrittenRead.{written-read, payload-length}
+use Rattle.message.proofs.RoundTrips as trips
 
--- the first item is this message, nothing before it is dropped, and it takes exactly its bytes
-pub record Reads (xs : List ℕ) (type seq : ℕ) (payload : List ℕ) : Type 0 where
-  pub item : scan xs ≡ decided (message type seq (length payload)) 0 (total (length payload))
-  pub part : payloadOf xs ≡ payload
-
--- write then read: where `write` answered a length, the bytes from that place on are read as what was written, with anything after
+-- write then read: where `write` answered a length, the first item from that place on is the message that was written, with
+-- nothing dropped, exactly its bytes removed and its payload, whatever stands after it
 pub write-then-read : {n place type seq : ℕ} {payload entry exit : List ℕ}
-    → Wrote (Length n) place type seq (length payload) payload entry exit → Reads (drop place exit) type seq payload
-write-then-read {n} {place} {type} {seq} {payload} {entry} {exit} wrote =
-    let p = passed (length entry) place type seq (length payload) (wrote .answers) in
-    let fine = writable-allowed type (length payload) seq (p .sound) in
-    let there = wrote .leaves ∙ refl in
-    let fits : place + length (bytes.message type seq payload) ≤ length entry = rw (length-message type seq payload) (p .room) in
-    rw (there, from-placed place (bytes.message type seq payload) entry fits)
-    (record { item = scan-message type seq payload _ fine; part = payload-of-message type seq payload _ fine })
+    → Wrote (Length n) place type seq (length payload) payload entry exit
+    → (scan (drop place exit) ≡ decided (message type seq (length payload)) 0 (total (length payload)))
+    × (payloadOf (drop place exit) ≡ payload)
+write-then-read wrote = trips.write-then-read wrote
 
--- read then write: where a message was read, `write` answers its length and puts the same bytes, if there is room; a NAK has SEQ 0
+-- read then write: of a message that was read, with SEQ 0 if it is a NAK, `write` answers the length and places the very bytes
+-- that were read, where there is room for them
 pub read-then-write : (xs : List ℕ) {type seq len d r place : ℕ} {entry exit : List ℕ} {answer : Written}
     → ((i : ℕ) → getD xs i 0 < 256)
     → scan xs ≡ decided (message type seq len) d r → (type ≡ nak → seq ≡ 0) → place + r ≤ length entry
     → Wrote answer place type seq (length (payloadOf xs)) (payloadOf xs) entry exit
     → (answerOf answer ≡ accepted r) × (exit ≡ placed place (take r (drop d xs)) entry)
-read-then-write xs {type} {seq} {len} {d} {r} {place} {entry} {exit} {answer} small h zero room wrote =
-    let m = message-at xs h in
-    let size = payload-length xs h in
-    let says = says-length (length entry) place type seq len (allowed-writable type len seq (m .fine) zero)
-    (le-ltb (length entry) (place + total len) (omega arith)) in
-    let answers : answerOf answer ≡ accepted r = wrote .answers ∙ rw (size, m .removed) says in
-    (answers, wrote .leaves ∙ rw (answers, written-read xs small h))
+read-then-write xs small read zero room wrote = trips.read-then-write xs small read zero room wrote
 
 -- the exception: a NAK with another SEQ can be read, and is refused with 7
 pub nak-refused : (size place seq len : ℕ) → (seq ≡ 0 → ⊥) → written size place nak seq len ≡ refused 7

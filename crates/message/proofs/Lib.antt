@@ -7,5 +7,6 @@ pub mod Found
 pub mod ReadWritten
 pub mod WrittenRead
 pub mod More
+pub mod RoundTrips
 pub mod Laws
 pub mod Examples

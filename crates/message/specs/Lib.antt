@@ -1,4 +1,4 @@
 pub mod Bytes
-pub mod Items
 pub mod Writing
+pub mod Items
 pub mod Promises

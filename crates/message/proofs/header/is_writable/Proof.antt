@@ -2,6 +2,7 @@
 use Prim.Native.Nat.{ℕ}
 use mathlib.Core.Bool.{true, false, not}
 use mathlib.Core.Path.{_≡_, sym, _∙_}
+use native.Mathlib.Omega.{arith}
 use lib.Dec.{eqb}
 use borrow.Author.Needs.{needs}
 use borrow.Author.Tests.{eq-eqb, ne-eqb}
@@ -26,11 +27,14 @@ is-allowed-requires : tie.Need-is-allowed-requires
 is-allowed-requires c κs = search needs
 
 returns : tie.Need-returns
-returns c = no-nak _ _ _ (sym (c .before .before .is-allowed .ensures) ∙ c .before .if1 .taken) (c .if2 .taken)
+returns c =
+    let a = c .before .before .before .args in
+    no-nak (a .kind) _ _ (sym (c .before .before .is-allowed .ensures) ∙ c .before .if1 .taken) (omega arith)
 
 returns-2 : tie.Need-returns-2
 returns-2 c =
-    a-nak _ _ _ (sym (c .before .before .before .is-allowed .ensures) ∙ c .before .before .if1 .taken) (c .before .if2 .left)
+    let a = c .before .before .before .before .args in
+    a-nak (a .kind) _ _ (sym (c .before .before .before .is-allowed .ensures) ∙ c .before .before .if1 .taken) (omega arith)
 
 returns-3 : tie.Need-returns-3
 returns-3 c = forbidden _ _ _ (sym (c .before .is-allowed .ensures) ∙ c .if1 .left)

@@ -7,7 +7,7 @@ use Rattle.message.proofs.reader.syn_stands.Statement.{statement}
 use Rattle.message.proofs.reader.syn_stands.Tie as tie
 
 returns : tie.Need-returns
-returns c = stands-empty _ (c .if1 .taken)
+returns c = stands-empty (now (c .before .args .rest)) (omega arith)
 
 shared-slice-read-if2 : tie.Need-shared-slice-read-if2
 shared-slice-read-if2 c = search needs
@@ -16,10 +16,10 @@ array-read-if2 : tie.Need-array-read-if2
 array-read-if2 c = search needs
 
 returns-2 : tie.Need-returns-2
-returns-2 c = stands-other _ (c .if2 .taken)
+returns-2 c = stands-other (now (c .before .before .before .args .rest)) (omega arith)
 
 returns-3 : tie.Need-returns-3
-returns-3 c = stands-lone _ (c .if3 .taken) (c .before .if2 .left)
+returns-3 c = stands-lone (now (c .before .before .before .before .args .rest)) (omega arith) (omega arith)
 
 shared-slice-read-result : tie.Need-shared-slice-read-result
 shared-slice-read-result c = search needs
@@ -28,7 +28,7 @@ array-read-result : tie.Need-array-read-result
 array-read-result c = search needs
 
 returns-4 : tie.Need-returns-4
-returns-4 c = stands-pair (now (c .before .before .before .before .before .args .rest)) (omega arith) (c .before .before .if2 .left)
+returns-4 c = stands-pair (now (c .before .before .before .before .before .args .rest)) (omega arith) (omega arith)
 
 pub syn-stands-spec : {M : Type 1} → statement M
 syn-stands-spec =
