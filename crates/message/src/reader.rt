@@ -5,8 +5,8 @@ ghost use lib.Dec.{eqb};
 ghost use lib.ListN.{length, getD, take, drop};
 ghost use Rattle.checksum.specs.Checksum.{checksumOf};
 ghost use Rattle.message.specs.Bytes.{fromLe16, headerLength, total};
-ghost use Rattle.message.specs.Items.{stands, dropped, lenIn, fieldsIn, headerChecksumIn, payloadIn, payloadChecksumIn, rules, scan, partWith};
-ghost use Rattle.message.specs.Promises.{scanOf};
+ghost use Rattle.message.specs.Items.{stands, dropped, lenIn, fieldsIn, headerChecksumIn, payloadIn, payloadChecksumIn, decided, rules, scan, partWith};
+ghost use Rattle.message.specs.Promises.{itemOf, scanOf};
 use crate::Seq;
 use crate::header::HEADER_LENGTH;
 use crate::header::SYN;
@@ -109,38 +109,31 @@ fn apply_rules(rest: &[u8], dropped: usize) -> Reading
     let len = le16_at(rest, 3) as usize;
     let fine = is_allowed(kind, len);
     if !sound {
-        return Reading::Decided {
-            item: Item::DamagedHeader,
-            dropped,
-            removed: SYN_LENGTH,
-        };
+        return found(Item::DamagedHeader, dropped, SYN_LENGTH);
     }
     if !fine {
-        return Reading::Decided {
-            item: Item::Forbidden,
-            dropped,
-            removed: SYN_LENGTH,
-        };
+        return found(Item::Forbidden, dropped, SYN_LENGTH);
     }
     let total = total_length(len);
     if rest.len() < total {
         return Reading::Undecided { dropped };
     }
     if !payload_is_sound(rest, len) {
-        return Reading::Decided {
-            item: Item::DamagedPayload,
-            dropped,
-            removed: SYN_LENGTH, // the search goes on behind SYN, and not behind the message
-        };
+        // the search goes on behind SYN, and not behind the message
+        return found(Item::DamagedPayload, dropped, SYN_LENGTH);
     }
+    let seq = Seq(rest[5]);
+    found(Item::Message { kind, seq, len }, dropped, total)
+}
+
+// An item with the bytes dropped before it and the bytes removed with it.
+fn found(item: Item, dropped: usize, removed: usize) -> Reading
+    ensures { λ r. ⌜ scanOf r ≡ decided (itemOf item) dropped removed ⌝ }
+{
     Reading::Decided {
-        item: Item::Message {
-            kind,
-            seq: Seq(rest[5]),
-            len,
-        },
+        item,
         dropped,
-        removed: total,
+        removed,
     }
 }
 

@@ -26,26 +26,34 @@ cast-len c = search needs
 is-allowed-requires : tie.Need-is-allowed-requires
 is-allowed-requires c κs = search needs
 
+found-requires : tie.Need-found-requires
+found-requires c κs = search needs
+
 returns-2 : tie.Need-returns-2
 returns-2 c =
-    let fine = c .before in
-    let len = fine .before in
-    let sound = len .before .before in
-    let a = sound .before .before .before .args in
-    sym
-    (rule-2 (a .dropped) (now (a .rest)) (omega arith)
-    (sym (sound .header-is-sound .ensures) ∙ not-true (sound .header-is-sound .result) (c .if2 .taken)))
-
-returns-3 : tie.Need-returns-3
-returns-3 c =
     let fine = c .before .before in
     let len = fine .before in
     let sound = len .before .before in
     let a = sound .before .before .before .args in
-    sym
+    c .found .ensures
+    ∙ sym
+    (rule-2 (a .dropped) (now (a .rest)) (omega arith)
+    (sym (sound .header-is-sound .ensures) ∙ not-true (sound .header-is-sound .result) (c .before .if2 .taken)))
+
+found-requires-2 : tie.Need-found-requires-2
+found-requires-2 c κs = search needs
+
+returns-3 : tie.Need-returns-3
+returns-3 c =
+    let fine = c .before .before .before in
+    let len = fine .before in
+    let sound = len .before .before in
+    let a = sound .before .before .before .args in
+    c .found2 .ensures
+    ∙ sym
     (rule-3 (a .dropped) (now (a .rest)) (omega arith)
-    (sym (sound .header-is-sound .ensures) ∙ not-false (sound .header-is-sound .result) (c .before .if2 .left))
-    (rw (len .le16-at .ensures) at (sym (fine .is-allowed .ensures) ∙ not-true (fine .is-allowed .result) (c .if3 .taken))))
+    (sym (sound .header-is-sound .ensures) ∙ not-false (sound .header-is-sound .result) (c .before .before .if2 .left))
+    (rw (len .le16-at .ensures) at (sym (fine .is-allowed .ensures) ∙ not-true (fine .is-allowed .result) (c .before .if3 .taken))))
 
 total-length-requires : tie.Need-total-length-requires
 total-length-requires c κs = search needs
@@ -66,40 +74,48 @@ returns-4 c =
 payload-is-sound-requires : tie.Need-payload-is-sound-requires
 payload-is-sound-requires c κs = search needs
 
+found-requires-3 : tie.Need-found-requires-3
+found-requires-3 c κs = search needs
+
 returns-5 : tie.Need-returns-5
 returns-5 c =
-    let body = c .before in
+    let body = c .before .before in
     let passed = body .before .before .before in
     let fine = passed .before .before in
     let len = fine .before in
     let sound = len .before .before in
     let a = sound .before .before .before .args in
-    sym
+    c .found3 .ensures
+    ∙ sym
     (rule-5 (a .dropped) (now (a .rest)) (omega arith)
     (sym (sound .header-is-sound .ensures) ∙ not-false (sound .header-is-sound .result) (passed .before .if2 .left))
     (rw (len .le16-at .ensures) at (sym (fine .is-allowed .ensures) ∙ not-false (fine .is-allowed .result) (passed .if3 .left)))
     (omega (arith, len .le16-at .ensures, body .before .before .total-length .ensures))
-    (sym (body .payload-is-sound .ensures) ∙ not-true (body .payload-is-sound .result) (c .if5 .taken)))
+    (sym (body .payload-is-sound .ensures) ∙ not-true (body .payload-is-sound .result) (c .before .if5 .taken)))
 
-shared-slice-read-t11 : tie.Need-shared-slice-read-t11
-shared-slice-read-t11 c = search needs
+shared-slice-read-t12 : tie.Need-shared-slice-read-t12
+shared-slice-read-t12 c = search needs
+
+found-requires-4 : tie.Need-found-requires-4
+found-requires-4 c κs = search needs
 
 returns-6 : tie.Need-returns-6
 returns-6 c =
-    let body = c .before .before in
+    let body = c .before .before .before in
     let count = body .before .before in
     let passed = count .before in
     let fine = passed .before .before in
     let len = fine .before in
     let sound = len .before .before in
     let a = sound .before .before .before .args in
-    rw (count .total-length .ensures, len .le16-at .ensures)
+    c .found4 .ensures
+    ∙ rw (count .total-length .ensures, len .le16-at .ensures)
     (sym
     (rule-6 (a .dropped) (now (a .rest)) (omega arith)
     (sym (sound .header-is-sound .ensures) ∙ not-false (sound .header-is-sound .result) (passed .before .if2 .left))
     (rw (len .le16-at .ensures) at (sym (fine .is-allowed .ensures) ∙ not-false (fine .is-allowed .result) (passed .if3 .left)))
     (omega (arith, len .le16-at .ensures, count .total-length .ensures))
-    (sym (body .payload-is-sound .ensures) ∙ not-false (body .payload-is-sound .result) (c .before .if5 .left))))
+    (sym (body .payload-is-sound .ensures) ∙ not-false (body .payload-is-sound .result) (c .before .before .if5 .left))))
 
 pub apply-rules-spec : {M : Type 1} → statement M
 apply-rules-spec =
@@ -111,11 +127,15 @@ apply-rules-spec =
     le16-at-requires
     cast-len
     is-allowed-requires
+    found-requires
     returns-2
+    found-requires-2
     returns-3
     total-length-requires
     returns-4
     payload-is-sound-requires
+    found-requires-3
     returns-5
-    shared-slice-read-t11
+    shared-slice-read-t12
+    found-requires-4
     returns-6)
