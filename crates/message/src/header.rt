@@ -23,6 +23,15 @@ pub const DATA_NSQ: u8 = 0x00;
 // The upper end of LEN, in bytes.
 pub const MAX_LEN: usize = 256;
 
+// Where TYPE, LEN, SEQ and the header's checksum stand in a message.
+pub const TYPE_PLACE: usize = 2;
+
+pub const LEN_PLACE: usize = 3;
+
+pub const SEQ_PLACE: usize = 5;
+
+pub const CHECKSUM_PLACE: usize = 6;
+
 // TYPE, LEN and SEQ, in bytes.
 pub const FIELDS_LENGTH: usize = 4;
 

@@ -8,9 +8,13 @@ ghost use Rattle.message.specs.Bytes.{fromLe16, headerLength, total};
 ghost use Rattle.message.specs.Items.{stands, dropped, lenIn, fieldsIn, headerChecksumIn, payloadIn, payloadChecksumIn, decided, rules, scan, partWith};
 ghost use Rattle.message.specs.Promises.{itemOf, scanOf};
 use crate::Seq;
+use crate::header::CHECKSUM_PLACE;
 use crate::header::HEADER_LENGTH;
+use crate::header::LEN_PLACE;
+use crate::header::SEQ_PLACE;
 use crate::header::SYN;
 use crate::header::SYN_LENGTH;
+use crate::header::TYPE_PLACE;
 use crate::header::is_allowed;
 use crate::header::total_length;
 
@@ -105,8 +109,8 @@ fn apply_rules(rest: &[u8], dropped: usize) -> Reading
         return Reading::Undecided { dropped };
     }
     let sound = header_is_sound(rest);
-    let kind = rest[2];
-    let len = le16_at(rest, 3) as usize;
+    let kind = rest[TYPE_PLACE];
+    let len = le16_at(rest, LEN_PLACE) as usize;
     let fine = is_allowed(kind, len);
     if !sound {
         return found(Item::DamagedHeader, dropped, SYN_LENGTH);
@@ -122,7 +126,7 @@ fn apply_rules(rest: &[u8], dropped: usize) -> Reading
         // the search goes on behind SYN, and not behind the message
         return found(Item::DamagedPayload, dropped, SYN_LENGTH);
     }
-    let seq = Seq(rest[5]);
+    let seq = Seq(rest[SEQ_PLACE]);
     found(Item::Message { kind, seq, len }, dropped, total)
 }
 
@@ -142,7 +146,7 @@ fn header_is_sound(rest: &[u8]) -> bool
     requires { ⌜ headerLength ≤ length (now rest) ⌝ }
     ensures { λ r. ⌜ r ≡ eqb (headerChecksumIn (now (rest .entry))) (checksumOf (fieldsIn (now (rest .entry)))) ⌝ }
 {
-    le16_at(rest, 6) == checksum::checksum(&rest[2..6])
+    le16_at(rest, CHECKSUM_PLACE) == checksum::checksum(&rest[SYN_LENGTH..CHECKSUM_PLACE])
 }
 
 // Whether the payload's checksum is right, its length being the header's LEN.
