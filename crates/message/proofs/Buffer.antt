@@ -26,10 +26,6 @@ module _ (a : ℕ) (m l : List ℕ) (fits : a + length m ≤ length l) where
   unfolding placed
   length-placed = simp (length-append, length-take, length-drop) (omega arith)
 
-  pub before-placed : take a (placed a m l) ≡ take a l
-  unfolding placed
-  before-placed = take-at (take a l) (m ++ drop (a + length m) l) a (simp length-take (omega arith))
-
   pub from-placed : drop a (placed a m l) ≡ m ++ drop (a + length m) l
   unfolding placed
   from-placed = drop-at (take a l) (m ++ drop (a + length m) l) a (simp length-take (omega arith))

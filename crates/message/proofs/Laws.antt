@@ -4,7 +4,7 @@ use Prim.Native.Nat.{ℕ, _+_, _≤_, _<_}
 use mathlib.Core.List.{List, _++_}
 use mathlib.Core.Path.{_≡_}
 use lib.ListN.{length, take, drop, getD, take-append-drop}
-use Rattle.message.specs.Bytes.{nak, total}
+use Rattle.message.specs.Bytes.{payloadAt, nak}
 use Rattle.message.specs.Items.{Item, message, decided, scan, partWith, payloadOf}
 use Rattle.message.specs.Writing.{accepted, refused, written, placed}
 use Rattle.message.specs.Promises.{answerOf, Wrote, scanOf}
@@ -16,13 +16,18 @@ use Rattle.message.proofs.Headers.{nak-not-writable}
 use Rattle.message.proofs.More as more
 use Rattle.message.proofs.RoundTrips as trips
 
--- write then read: where `write` answered a length, the first item from that place on is the message that was written, with
--- nothing dropped, exactly its bytes removed and its payload, whatever stands after it
+-- write then read: where `write` answered a length n, the first item from that place on is the message that was written, with
+-- nothing dropped, exactly its n bytes removed and its payload, whatever stands after it
 pub write-then-read : {n place type seq : ℕ} {payload entry exit : List ℕ}
     → Wrote (Length n) place type seq (length payload) payload entry exit
-    → (scan (drop place exit) ≡ decided (message type seq (length payload)) 0 (total (length payload)))
-    × (payloadOf (drop place exit) ≡ payload)
+    → (scan (drop place exit) ≡ decided (message type seq (length payload)) 0 n) × (payloadOf (drop place exit) ≡ payload)
 write-then-read wrote = trips.write-then-read wrote
+
+-- the same of `write_around`, with the payload that stood there
+pub write-around-then-read : {n place type seq len : ℕ} {entry exit : List ℕ}
+    → Wrote (Length n) place type seq len (payloadAt place len entry) entry exit
+    → (scan (drop place exit) ≡ decided (message type seq len) 0 n) × (payloadOf (drop place exit) ≡ payloadAt place len entry)
+write-around-then-read wrote = trips.write-around-then-read wrote
 
 -- read then write: of a message that was read, with SEQ 0 if it is a NAK, `write` answers the length and places the very bytes
 -- that were read, where there is room for them

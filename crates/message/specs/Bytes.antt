@@ -3,7 +3,7 @@ use Prim.Native.Nat.{ℕ, _+_, _*_, _/_, _%_}
 use mathlib.Core.Bool.{Bool, false, not, _&&_, _||_, cond as if}
 use mathlib.Core.List.{List, [], _∷_, _++_}
 use lib.Dec.{eqb, leb}
-use lib.ListN.{length}
+use lib.ListN.{length, take, drop}
 use Rattle.checksum.specs.Checksum.{checksumOf}
 
 -- "All numbers little-endian, no padding": the two bytes of a 16-bit number
@@ -43,6 +43,10 @@ body payload = payload ++ le16 (checksumOf payload)
 -- the bytes of a message
 unfoldable pub message : ℕ → ℕ → List ℕ → List ℕ
 message type seq payload = header type (length payload) seq ++ body payload
+
+-- the LEN payload bytes of a message that stands at a place: behind its header
+abbrev pub payloadAt : ℕ → ℕ → List ℕ → List ℕ
+payloadAt place len bytes = take len (drop (place + headerLength) bytes)
 
 -- "Total 10 + LEN"
 abbrev pub total : ℕ → ℕ

@@ -5,7 +5,7 @@ use mathlib.Core.List.{List, [], _∷_}
 use lib.Dec.{eqb, ltb}
 use lib.ListN.{length, getD, take, drop}
 use Rattle.checksum.specs.Checksum.{checksumOf}
-use Rattle.message.specs.Bytes.{fromLe16, syn1, syn2, syn, headerLength, allowed, total}
+use Rattle.message.specs.Bytes.{fromLe16, syn1, syn2, syn, headerLength, payloadAt, allowed, total}
 
 -- the items, by 01's names; "a message with TYPE, SEQ and LEN"
 pub data Item : Type 0 where
@@ -83,7 +83,7 @@ partWith (undecided n) xs = []
 partWith (decided damagedHeader n r) xs = []
 partWith (decided forbidden n r) xs = []
 partWith (decided damagedPayload n r) xs = []
-partWith (decided (message type seq len) n r) xs = take len (drop (n + headerLength) xs)
+partWith (decided (message type seq len) n r) xs = payloadAt n len xs
 
 -- the payload of the first item of a list of bytes
 unfoldable pub payloadOf : List ℕ → List ℕ

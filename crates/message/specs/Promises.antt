@@ -6,7 +6,7 @@ use lib.ListN.{length}
 use Rattle.message.specs.Bytes.{message}
 use Rattle.message.specs.Items as items
 use Rattle.message.specs.Items.{Scan, undecided, decided}
-use Rattle.message.specs.Writing.{Answer, accepted, refused, written, after}
+use Rattle.message.specs.Writing.{forbiddenHeader, noRoom, Answer, accepted, refused, written, after}
 use Rattle.message.specs.declared.writer.Written.{Written}
 use Rattle.message.specs.declared.writer.Written.the-variants.{Length, Forbidden, NoRoom}
 use Rattle.message.specs.declared.reader.Item.{Item}
@@ -14,11 +14,11 @@ use Rattle.message.specs.declared.reader.Item.the-variants as item
 use Rattle.message.specs.declared.reader.Reading.{Reading}
 use Rattle.message.specs.declared.reader.Reading.the-variants.{Undecided, Decided}
 
--- the writer's answers: the length, and refusals 7 and 6
+-- the writer's answers
 abbrev pub answerOf : Written → Answer
 answerOf (Length n) = accepted n
-answerOf Forbidden = refused 7
-answerOf NoRoom = refused 6
+answerOf Forbidden = refused forbiddenHeader
+answerOf NoRoom = refused noRoom
 
 -- what a writer promises of its answer and of its buffer, at entry and at exit
 pub record Wrote (answer : Written) (place type seq len : ℕ) (payload entry exit : List ℕ) : Type 0 where

@@ -4,18 +4,25 @@ use mathlib.Core.Bool.{not, cond as if}
 use mathlib.Core.List.{List, _++_}
 use lib.Dec.{ltb}
 use lib.ListN.{length, take, drop}
-use Rattle.message.specs.Bytes.{headerLength, total, writable}
+use Rattle.message.specs.Bytes.{total, writable}
+
+-- the writer's refusal numbers: "forbidden header, or NAK with SEQ not 0", "place plus 10 + LEN past the buffer's end"
+abbrev pub forbiddenHeader : ℕ
+forbiddenHeader = 7
+
+abbrev pub noRoom : ℕ
+noRoom = 6
 
 -- "it answers the length written", or a refusal's number
 pub data Answer : Type 0 where
   accepted : (length : ℕ) → Answer
   refused : (number : ℕ) → Answer
 
--- 7, "forbidden header, or NAK with SEQ not 0"; 6, "place plus 10 + LEN past the buffer's end (after 7)"
+-- the table's two lines for the writer, 6 "after 7"
 unfoldable pub written : (size place type seq len : ℕ) → Answer
 written size place type seq len =
-    if (not (writable type len seq)) (refused 7)
-    (if (ltb size (place + total len)) (refused 6)
+    if (not (writable type len seq)) (refused forbiddenHeader)
+    (if (ltb size (place + total len)) (refused noRoom)
     (accepted (total len)))
 
 -- "bytes before and after it stay": the buffer with bytes at a place of it
@@ -26,7 +33,3 @@ placed place bytes buffer = take place buffer ++ (bytes ++ drop (place + length 
 abbrev pub after : Answer → ℕ → List ℕ → List ℕ → List ℕ
 after (accepted n) place bytes buffer = placed place bytes buffer
 after (refused n) place bytes buffer = buffer
-
--- the payload of a message at a place, where it stands in the buffer already
-abbrev pub payloadAt : ℕ → ℕ → List ℕ → List ℕ
-payloadAt place len buffer = take len (drop (place + headerLength) buffer)

@@ -24,16 +24,16 @@ pub const DATA_NSQ: u8 = 0x00;
 pub const MAX_LEN: usize = 256;
 
 // Where TYPE, LEN, SEQ and the header's checksum stand in a message.
-pub const TYPE_PLACE: usize = 2;
+pub(crate) const TYPE_PLACE: usize = 2;
 
-pub const LEN_PLACE: usize = 3;
+pub(crate) const LEN_PLACE: usize = 3;
 
-pub const SEQ_PLACE: usize = 5;
+pub(crate) const SEQ_PLACE: usize = 5;
 
-pub const CHECKSUM_PLACE: usize = 6;
+pub(crate) const CHECKSUM_PLACE: usize = 6;
 
 // TYPE, LEN and SEQ, in bytes.
-pub const FIELDS_LENGTH: usize = 4;
+pub(crate) const FIELDS_LENGTH: usize = 4;
 
 // SYN, those fields and their checksum, in bytes.
 pub const HEADER_LENGTH: usize = 8;

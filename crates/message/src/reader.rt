@@ -2,9 +2,9 @@
 ghost use mathlib.Core.Path.{_≡_};
 ghost use Prim.Native.Nat.{_+_, _≤_, _<_};
 ghost use lib.Dec.{eqb};
-ghost use lib.ListN.{length, getD, take, drop};
+ghost use lib.ListN.{length, getD};
 ghost use Rattle.checksum.specs.Checksum.{checksumOf};
-ghost use Rattle.message.specs.Bytes.{fromLe16, headerLength, total};
+ghost use Rattle.message.specs.Bytes.{fromLe16, headerLength, payloadAt, total};
 ghost use Rattle.message.specs.Items.{stands, dropped, lenIn, fieldsIn, headerChecksumIn, payloadIn, payloadChecksumIn, decided, rules, scan, partWith};
 ghost use Rattle.message.specs.Promises.{itemOf, scanOf};
 use crate::Seq;
@@ -168,7 +168,7 @@ fn le16_at(bytes: &[u8], at: usize) -> u16
 
 // The len bytes after a header at a place, or those that there are.
 fn after_header(bytes: &[u8], place: usize, len: usize) -> &[u8]
-    ensures { λ r. ⌜ now r ≡ take len (drop (place + headerLength) (now (bytes .entry))) ⌝ }
+    ensures { λ r. ⌜ now r ≡ payloadAt place len (now (bytes .entry)) ⌝ }
 {
     if bytes.len() < HEADER_LENGTH {
         return &bytes[..0];

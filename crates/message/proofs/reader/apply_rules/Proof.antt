@@ -9,7 +9,9 @@ use Rattle.message.proofs.reader.apply_rules.Statement.{statement}
 use Rattle.message.proofs.reader.apply_rules.Tie as tie
 
 returns : tie.Need-returns
-returns c = sym (rule-1 _ _ (c .if1 .taken))
+returns c =
+    let a = c .before .before .args in
+    sym (rule-1 (a .dropped) (now (a .rest)) (omega arith))
 
 header-is-sound-requires : tie.Need-header-is-sound-requires
 header-is-sound-requires c κs = search needs

@@ -7,8 +7,8 @@ use lib.ListN.{length, take, length-take, length-drop}
 use borrow.Author.Needs.{needs}
 use denote.Ref.{now}
 use Rattle.checksum.specs.Checksum.{checksumOf}
-use Rattle.message.specs.Writing.{placed, payloadAt}
-use Rattle.message.specs.Bytes.{le16, headerLength, header, body, message, total}
+use Rattle.message.specs.Writing.{placed}
+use Rattle.message.specs.Bytes.{le16, headerLength, header, body, message, total, payloadAt}
 use Rattle.message.proofs.Buffer.{lentFrom, givenBack, lent-second, lent-after}
 use Rattle.message.proofs.Headers.{length-le16, length-header}
 use Rattle.message.proofs.writer.put_around.Statement.{statement}

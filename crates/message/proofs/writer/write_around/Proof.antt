@@ -2,7 +2,7 @@
 use lib.ListN.{length}
 use borrow.Author.Needs.{needs}
 use denote.Ref.{now}
-use Rattle.message.specs.Writing.{payloadAt}
+use Rattle.message.specs.Bytes.{payloadAt}
 use Rattle.message.proofs.Accepted.{fitting, wrote-length, wrote-refusal}
 use Rattle.message.proofs.writer.write_around.Statement.{statement}
 use Rattle.message.proofs.writer.write_around.Tie as tie
