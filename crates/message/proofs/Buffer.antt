@@ -5,7 +5,7 @@ use mathlib.Core.Path.{_≡_, refl, sym, ap, _∙_}
 use native.Mathlib.Nat.{add-zero, zero-add}
 use native.Mathlib.Omega.{arith}
 use lib.ListN.{length, take, drop, length-append, length-take, length-drop, take-append-drop, drop-of-length-le}
-use lib.Seq.{take-all, take-at, drop-at, drop-drop, take-add}
+use lib.Seq.{take-all, take-nil, take-length, take-at, drop-at, drop-drop, take-add}
 use borrow.Rule.Slice.PartMut.{putMid}
 use Rattle.message.specs.Writing.{placed}
 
@@ -19,6 +19,13 @@ givenBack a l x = putMid a (length l - a) l x
 -- a part from a place to the end is what is left after that place
 pub tail : (a : ℕ) (l : List ℕ) → lentFrom a l ≡ drop a l
 tail a l = take-all (length l - a) (drop a l) (simp length-drop (omega arith))
+
+-- a part of n bytes: nothing past the end, and all from a place on where there are no more
+pub part-beyond : (n k : ℕ) (l : List ℕ) → length l ≤ k → [] ≡ take n (drop k l)
+part-beyond n k l h = rw (drop-of-length-le l {i = k} h, take-nil n)
+
+pub part-all : (n k : ℕ) (l : List ℕ) → length l ≤ k + n → lentFrom k l ≡ take n (drop k l)
+part-all n k l h = rw (tail k l, take-all n (drop k l) (simp length-drop (omega arith)))
 
 -- the parts of a buffer in which bytes were placed
 module _ (a : ℕ) (m l : List ℕ) (fits : a + length m ≤ length l) where
@@ -70,6 +77,11 @@ neighbours a m n l fits =
 pub front : (m l : List ℕ) → m ++ drop (length m) l ≡ placed 0 m l
 unfolding placed
 front m l = rw (zero-add (length m))
+
+-- bytes copied to the front of what was lent from a place on
+pub copied : (a : ℕ) (m l x : List ℕ) → a + length m ≤ length l → x ≡ take (length m) m ++ drop (length m) (lentFrom a l)
+    → givenBack a l x ≡ placed a m l
+copied a m l x within copy = rw (copy, take-length m, front m (lentFrom a l)) (lent-front a m l within)
 
 pub neighbours-front : (m n l : List ℕ) → length m + length n ≤ length l → placed (length m) n (placed 0 m l) ≡ placed 0 (m ++ n) l
 neighbours-front m n l fits =

@@ -26,7 +26,7 @@ found-by n xs {i} {d} {r} s (by-2 long bad e) h =
     let count : r ≡ 2 = cc in record { place = cc; long = long; some = omega arith; within = omega arith }
 found-by n xs {i} {d} {r} s (by-3 long sound bad e) h =
     let count : r ≡ 2 = cc in record { place = cc; long = long; some = omega arith; within = omega arith }
-found-by n xs s (by-4 long short e) h = let z : _≡_ {A = ℕ} 0 1 = cc in absurd (omega arith)
+found-by n xs s (by-4 long sound fine short e) h = let z : _≡_ {A = ℕ} 0 1 = cc in absurd (omega arith)
 found-by n xs {i} {d} {r} s (by-5 long sound fine whole bad e) h =
     let count : r ≡ 2 = cc in record { place = cc; long = long; some = omega arith; within = omega arith }
 found-by n xs {i} {d} {r} s (by-6 long sound fine whole good e) h =
@@ -57,7 +57,7 @@ message-by : (n : ℕ) (xs : List ℕ) {t q len d r : ℕ} (s : Scan) → Applie
 message-by n xs s (by-1 short e) h = let z : _≡_ {A = ℕ} 0 1 = cc in absurd (omega arith)
 message-by n xs s (by-2 long bad e) h = let z : _≡_ {A = ℕ} 0 1 = cc in absurd (omega arith)
 message-by n xs s (by-3 long sound bad e) h = let z : _≡_ {A = ℕ} 0 1 = cc in absurd (omega arith)
-message-by n xs s (by-4 long short e) h = let z : _≡_ {A = ℕ} 0 1 = cc in absurd (omega arith)
+message-by n xs s (by-4 long sound fine short e) h = let z : _≡_ {A = ℕ} 0 1 = cc in absurd (omega arith)
 message-by n xs s (by-5 long sound fine whole bad e) h = let z : _≡_ {A = ℕ} 0 1 = cc in absurd (omega arith)
 message-by n xs {t} {q} {len} {d} {r} s (by-6 long sound fine whole good e) h =
     let type : t ≡ typeIn xs = cc in

@@ -28,41 +28,41 @@ dropped-more (x ∷ y ∷ xs) ys h = same-place (stands (x ∷ y ∷ xs)) x (y �
 
 -- the parts of the bytes that are left, where there are enough of them
 module _ (xs ys : List ℕ) (long : headerLength ≤ length xs) where
-  len-more : lenIn (xs ++ ys) ≡ lenIn xs
+  pub len-more : lenIn (xs ++ ys) ≡ lenIn xs
   len-more = rw (List·getD-append xs ys 0 3 (omega arith), List·getD-append xs ys 0 4 (omega arith))
 
-  type-more : typeIn (xs ++ ys) ≡ typeIn xs
+  pub type-more : typeIn (xs ++ ys) ≡ typeIn xs
   type-more = List·getD-append xs ys 0 2 (omega arith)
 
-  seq-more : seqIn (xs ++ ys) ≡ seqIn xs
+  pub seq-more : seqIn (xs ++ ys) ≡ seqIn xs
   seq-more = List·getD-append xs ys 0 5 (omega arith)
 
-  fields-more : fieldsIn (xs ++ ys) ≡ fieldsIn xs
+  pub fields-more : fieldsIn (xs ++ ys) ≡ fieldsIn xs
   fields-more = rw (drop-append-le 2 xs ys (omega arith)) (take-append-le 4 (drop 2 xs) ys (simp length-drop (omega arith)))
 
-  sum-more : headerChecksumIn (xs ++ ys) ≡ headerChecksumIn xs
+  pub sum-more : headerChecksumIn (xs ++ ys) ≡ headerChecksumIn xs
   sum-more = rw (List·getD-append xs ys 0 6 (omega arith), List·getD-append xs ys 0 7 (omega arith))
 
-  sound-more : eqb (headerChecksumIn (xs ++ ys)) (checksumOf (fieldsIn (xs ++ ys)))
+  pub sound-more : eqb (headerChecksumIn (xs ++ ys)) (checksumOf (fieldsIn (xs ++ ys)))
       ≡ eqb (headerChecksumIn xs) (checksumOf (fieldsIn xs))
   sound-more = rw (sum-more, fields-more)
 
-  allowed-more : allowed (typeIn (xs ++ ys)) (lenIn (xs ++ ys)) ≡ allowed (typeIn xs) (lenIn xs)
+  pub allowed-more : allowed (typeIn (xs ++ ys)) (lenIn (xs ++ ys)) ≡ allowed (typeIn xs) (lenIn xs)
   allowed-more = rw (type-more, len-more)
 
-  long-more : headerLength ≤ length (xs ++ ys)
+  pub long-more : headerLength ≤ length (xs ++ ys)
   long-more = rw (length-append xs ys) (omega arith)
 
   module _ (whole : total (lenIn xs) ≤ length xs) where
-    whole-more : total (lenIn (xs ++ ys)) ≤ length (xs ++ ys)
+    pub whole-more : total (lenIn (xs ++ ys)) ≤ length (xs ++ ys)
     whole-more = rw (len-more, length-append xs ys) (omega arith)
 
-    payload-more : payloadIn (xs ++ ys) ≡ payloadIn xs
+    pub payload-more : payloadIn (xs ++ ys) ≡ payloadIn xs
     payload-more =
         rw (len-more, drop-append-le headerLength xs ys (omega arith))
         (take-append-le (lenIn xs) (drop headerLength xs) ys (simp length-drop (omega arith)))
 
-    stored-more : payloadChecksumIn (xs ++ ys) ≡ payloadChecksumIn xs
+    pub stored-more : payloadChecksumIn (xs ++ ys) ≡ payloadChecksumIn xs
     stored-more =
         rw (
           len-more,
@@ -70,7 +70,7 @@ module _ (xs ys : List ℕ) (long : headerLength ≤ length xs) where
           List·getD-append xs ys 0 (headerLength + lenIn xs + 1) (omega arith),
         )
 
-    good-more : eqb (payloadChecksumIn (xs ++ ys)) (checksumOf (payloadIn (xs ++ ys)))
+    pub good-more : eqb (payloadChecksumIn (xs ++ ys)) (checksumOf (payloadIn (xs ++ ys)))
         ≡ eqb (payloadChecksumIn xs) (checksumOf (payloadIn xs))
     good-more = rw (stored-more, payload-more)
 
@@ -80,7 +80,7 @@ rules-more n xs ys s (by-1 short e) h = let z : _≡_ {A = ℕ} 0 1 = cc in absu
 rules-more n xs ys s (by-2 long bad e) h = rw e (rule-2 n (xs ++ ys) (long-more xs ys long) (sound-more xs ys long ∙ bad))
 rules-more n xs ys s (by-3 long sound bad e) h =
     rw e (rule-3 n (xs ++ ys) (long-more xs ys long) (sound-more xs ys long ∙ sound) (allowed-more xs ys long ∙ bad))
-rules-more n xs ys s (by-4 long short e) h = let z : _≡_ {A = ℕ} 0 1 = cc in absurd (omega arith)
+rules-more n xs ys s (by-4 long sound fine short e) h = let z : _≡_ {A = ℕ} 0 1 = cc in absurd (omega arith)
 rules-more n xs ys s (by-5 long sound fine whole bad e) h =
     rw e
     (rule-5 n (xs ++ ys) (long-more xs ys long) (sound-more xs ys long ∙ sound) (allowed-more xs ys long ∙ fine)

@@ -48,7 +48,8 @@ pub data Applied (n : ℕ) (xs : List ℕ) (s : Scan) : Type 0 where
       → Applied n xs s
   by-3 : headerLength ≤ length xs → eqb (headerChecksumIn xs) (checksumOf (fieldsIn xs)) ≡ true
       → allowed (typeIn xs) (lenIn xs) ≡ false → s ≡ found n forbidden → Applied n xs s
-  by-4 : headerLength ≤ length xs → length xs < total (lenIn xs) → s ≡ undecided n → Applied n xs s
+  by-4 : headerLength ≤ length xs → eqb (headerChecksumIn xs) (checksumOf (fieldsIn xs)) ≡ true
+      → allowed (typeIn xs) (lenIn xs) ≡ true → length xs < total (lenIn xs) → s ≡ undecided n → Applied n xs s
   by-5 : headerLength ≤ length xs → eqb (headerChecksumIn xs) (checksumOf (fieldsIn xs)) ≡ true
       → allowed (typeIn xs) (lenIn xs) ≡ true → total (lenIn xs) ≤ length xs
       → eqb (payloadChecksumIn xs) (checksumOf (payloadIn xs)) ≡ false → s ≡ found n damagedPayload → Applied n xs s
@@ -67,7 +68,7 @@ module _ (n : ℕ) (xs : List ℕ) where
 
     at-length : (b : Bool) → ltb (length xs) (total (lenIn xs)) ≡ b → Applied n xs (rules n xs)
     at-length true h =
-        by-4 long (ltb-true _ _ h) (rule-4 n xs long sound fine (ltb-true _ _ h))
+        by-4 long sound fine (ltb-true _ _ h) (rule-4 n xs long sound fine (ltb-true _ _ h))
     at-length false h = at-payload (ltb-false _ _ h) (eqb (payloadChecksumIn xs) (checksumOf (payloadIn xs))) refl
 
   at-header : (long : headerLength ≤ length xs) → eqb (headerChecksumIn xs) (checksumOf (fieldsIn xs)) ≡ true → (b : Bool)

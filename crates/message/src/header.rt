@@ -24,11 +24,11 @@ pub const DATA_NSQ: u8 = 0x00;
 pub const MAX_LEN: usize = 256;
 
 // Where TYPE, LEN, SEQ and the header's checksum stand in a message.
-pub(crate) const TYPE_PLACE: usize = 2;
+pub const TYPE_PLACE: usize = 2;
 
 pub(crate) const LEN_PLACE: usize = 3;
 
-pub(crate) const SEQ_PLACE: usize = 5;
+pub const SEQ_PLACE: usize = 5;
 
 pub(crate) const CHECKSUM_PLACE: usize = 6;
 
@@ -41,8 +41,8 @@ pub const HEADER_LENGTH: usize = 8;
 // A message beside its payload, in bytes: the header and the payload's checksum, which is there also when LEN is 0.
 pub const OVERHEAD: usize = 10;
 
-// The bytes of a message with this LEN. Only for this crate: a LEN of 16 bits is asked for, so that the sum fits.
-pub(crate) fn total_length(len: usize) -> usize
+// The bytes of a message with this LEN. Asks for a LEN of 16 bits, so that the sum fits; the callers have read one.
+pub fn total_length(len: usize) -> usize
     requires { ⌜ len < 2 ^ 16 ⌝ }
     ensures { λ r. ⌜ r ≡ total len ⌝ }
 {

@@ -1,11 +1,11 @@
 // The message reader (document 01, "How bytes become items"): the first item of a lent slice. It holds nothing.
 ghost use mathlib.Core.Path.{_≡_};
-ghost use Prim.Native.Nat.{_+_, _≤_, _<_};
+ghost use Prim.Native.Nat.{_+_, _≤_, _<_, _^_};
 ghost use lib.Dec.{eqb};
-ghost use lib.ListN.{length, getD};
+ghost use lib.ListN.{length, getD, take};
 ghost use Rattle.checksum.specs.Checksum.{checksumOf};
-ghost use Rattle.message.specs.Bytes.{fromLe16, headerLength, payloadAt, total};
-ghost use Rattle.message.specs.Items.{stands, dropped, lenIn, fieldsIn, headerChecksumIn, payloadIn, payloadChecksumIn, decided, rules, scan, partWith};
+ghost use Rattle.message.specs.Bytes.{fromLe16, headerLength, payloadAt};
+ghost use Rattle.message.specs.Items.{stands, dropped, lenIn, fieldsIn, headerChecksumIn, decided, rules, scan, partWith};
 ghost use Rattle.message.specs.Promises.{itemOf, scanOf};
 use crate::Seq;
 use crate::header::CHECKSUM_PLACE;
@@ -110,7 +110,7 @@ fn apply_rules(rest: &[u8], dropped: usize) -> Reading
     }
     let sound = header_is_sound(rest);
     let kind = rest[TYPE_PLACE];
-    let len = le16_at(rest, LEN_PLACE) as usize;
+    let len = len_in(rest);
     let fine = is_allowed(kind, len);
     if !sound {
         return found(Item::DamagedHeader, dropped, SYN_LENGTH);
@@ -122,7 +122,7 @@ fn apply_rules(rest: &[u8], dropped: usize) -> Reading
     if rest.len() < total {
         return Reading::Undecided { dropped };
     }
-    if !payload_is_sound(rest, len) {
+    if !payload_is_sound(&rest[HEADER_LENGTH..], len) {
         // the search goes on behind SYN, and not behind the message
         return found(Item::DamagedPayload, dropped, SYN_LENGTH);
     }
@@ -149,13 +149,21 @@ fn header_is_sound(rest: &[u8]) -> bool
     le16_at(rest, CHECKSUM_PLACE) == checksum::checksum(&rest[SYN_LENGTH..CHECKSUM_PLACE])
 }
 
-// Whether the payload's checksum is right, its length being the header's LEN.
-fn payload_is_sound(rest: &[u8], len: usize) -> bool
-    requires { ⌜ (len ≡ lenIn (now rest)) × (total len ≤ length (now rest)) ⌝ }
-    ensures { λ r. ⌜ r ≡ eqb (payloadChecksumIn (now (rest .entry))) (checksumOf (payloadIn (now (rest .entry)))) ⌝ }
+// The LEN of the header that stands in front. Asks for a whole header, which the callers here and in the crate above have.
+pub fn len_in(rest: &[u8]) -> usize
+    requires { ⌜ headerLength ≤ length (now rest) ⌝ }
+    ensures { λ r. ⌜ (r ≡ lenIn (now (rest .entry))) × (r < 2 ^ 16) ⌝ }
 {
-    let end = HEADER_LENGTH + len;
-    le16_at(rest, end) == checksum::checksum(&rest[HEADER_LENGTH..end])
+    le16_at(rest, LEN_PLACE) as usize
+}
+
+// Whether the checksum behind a payload of len bytes is right, where these bytes stand behind a header. Asks for all of them,
+// which the callers here and in the crate above have.
+pub fn payload_is_sound(body: &[u8], len: usize) -> bool
+    requires { ⌜ len + 2 ≤ length (now body) ⌝ }
+    ensures { λ r. ⌜ r ≡ eqb (fromLe16 (getD (now (body .entry)) len 0) (getD (now (body .entry)) (len + 1) 0)) (checksumOf (take len (now (body .entry)))) ⌝ }
+{
+    le16_at(body, len) == checksum::checksum(&body[..len])
 }
 
 // The 16-bit number at a place.

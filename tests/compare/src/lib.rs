@@ -1,9 +1,14 @@
 //! What the comparisons share: generated inputs, and the C functions beside the independent ones on each of them.
 
+pub mod captures;
 pub mod damage;
+pub mod lister;
+pub mod listings;
 mod random;
 pub mod reader;
+mod sample;
 pub mod slices;
+pub mod stored;
 pub mod writer;
 
 pub use random::Random;

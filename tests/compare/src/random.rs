@@ -11,6 +11,11 @@ impl Random {
             Err(_) => 20_261_115,
         };
         println!("{purpose}: seed {seed}");
+        Random::new(seed)
+    }
+
+    /// Starts from this number.
+    pub fn new(seed: u64) -> Self {
         // any state but 0 serves
         Random((seed ^ 0x9E37_79B9_7F4A_7C15).max(1))
     }

@@ -2,6 +2,7 @@
 
 use crate::damage::{damage, fields, remake_checksums};
 use crate::Random;
+use independent::examples::MESSAGES;
 use independent::message::{header, Message, ACK, DATA_NSQ, DATA_SEQ, NAK, SYN};
 
 /// The four TYPE values of document 01.
@@ -33,6 +34,25 @@ fn piece(random: &mut Random) -> Vec<u8> {
         8 => junk(random, 40),
         _ => random.bytes(24),
     }
+}
+
+/// Examples 3 to 6 of document 01, and data messages of the least, a middle and the greatest LEN.
+pub fn samples(random: &mut Random) -> Vec<Vec<u8>> {
+    let mut samples: Vec<Vec<u8>> = MESSAGES.iter().map(|(_, bytes)| bytes.to_vec()).collect();
+    for (kind, len) in [(DATA_SEQ, 1), (DATA_NSQ, 30), (DATA_SEQ, 255), (DATA_NSQ, 256)] {
+        samples.push(Message::new(kind, random.byte(), &random.bytes(len)).bytes());
+    }
+    samples
+}
+
+/// So many bytes of these pieces behind one another; the last one is cut.
+pub fn filled(length: usize, random: &mut Random, piece: impl Fn(&mut Random) -> Vec<u8>) -> Vec<u8> {
+    let mut bytes = Vec::new();
+    while bytes.len() < length {
+        bytes.extend(piece(random));
+    }
+    bytes.truncate(length);
+    bytes
 }
 
 /// An allowed message. Most payloads are short.

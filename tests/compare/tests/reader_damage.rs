@@ -2,18 +2,10 @@
 
 use compare::damage::{damage, fields, remake_checksums};
 use compare::reader::Tally;
+use compare::slices::samples;
 use compare::{slices, Random};
 use independent::examples::MESSAGES;
-use independent::message::{Message, ACK, DATA_NSQ, DATA_SEQ};
-
-/// Examples 3 to 6 of document 01, and data messages of the least, a middle and the greatest LEN.
-fn samples(random: &mut Random) -> Vec<Vec<u8>> {
-    let mut samples: Vec<Vec<u8>> = MESSAGES.iter().map(|(_, bytes)| bytes.to_vec()).collect();
-    for (kind, len) in [(DATA_SEQ, 1), (DATA_NSQ, 30), (DATA_SEQ, 255), (DATA_NSQ, 256)] {
-        samples.push(Message::new(kind, random.byte(), &random.bytes(len)).bytes());
-    }
-    samples
-}
+use independent::message::{Message, ACK, DATA_NSQ};
 
 #[test]
 fn each_field() {

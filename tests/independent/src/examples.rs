@@ -1,4 +1,4 @@
-//! Document 01's bench examples of messages: 3 to 6 as bytes, and 7 to 9 made of them.
+//! Document 01's bench examples of messages: 3 to 6 as bytes, 7 to 9 and the lister's capture made of them.
 
 use crate::message::{Message, ACK, DATA_SEQ, NAK};
 
@@ -38,6 +38,11 @@ pub fn example_8() -> Vec<u8> {
 /// 9. "Case 3 with last byte FE"
 pub fn example_9() -> Vec<u8> {
     [&EXAMPLE_3[..9], &[0xFE]].concat()
+}
+
+/// "case 3 followed by the first 17 bytes of case 6", the capture whose listing document 01 gives.
+pub fn example_of_the_lister() -> Vec<u8> {
+    [&EXAMPLE_3[..], &EXAMPLE_6[..17]].concat()
 }
 
 #[cfg(test)]

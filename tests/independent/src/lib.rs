@@ -2,6 +2,8 @@
 
 pub mod checksum;
 pub mod examples;
+pub mod line;
+pub mod listing;
 pub mod message;
 pub mod reader;
 pub mod vectors;

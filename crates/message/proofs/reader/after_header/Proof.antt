@@ -1,30 +1,21 @@
 -- `message::reader::after_header` meets its contract: past the end there is nothing, and near it less.
-use Prim.Native.Nat.{ℕ, _+_, _≤_}
-use mathlib.Core.List.{List, []}
-use mathlib.Core.Path.{_≡_, sym}
+use Prim.Native.Nat.{_+_}
+use mathlib.Core.Path.{sym}
 use native.Mathlib.Omega.{arith}
-use lib.ListN.{length, take, drop, length-take, length-drop, drop-of-length-le}
-use lib.Seq.{take-all, take-nil, length-take-le}
+use lib.ListN.{length-take, length-drop}
+use lib.Seq.{length-take-le}
 use borrow.Author.Needs.{needs}
 use denote.Ref.{now}
 use Rattle.message.specs.Bytes.{headerLength}
-use Rattle.message.proofs.Buffer.{lentFrom, tail}
+use Rattle.message.proofs.Buffer.{tail, part-beyond, part-all}
 use Rattle.message.proofs.reader.after_header.Statement.{statement}
 use Rattle.message.proofs.reader.after_header.Tie as tie
-
--- nothing stands past the end
-beyond : (n k : ℕ) (l : List ℕ) → length l ≤ k → [] ≡ take n (drop k l)
-beyond n k l h = rw (drop-of-length-le l {i = k} h, take-nil n)
-
--- all that stands from a place on, where it is no more than asked for
-all : (n k : ℕ) (l : List ℕ) → length l ≤ k + n → lentFrom k l ≡ take n (drop k l)
-all n k l h = rw (tail k l, take-all n (drop k l) (simp length-drop (omega arith)))
 
 slice-aggregate-result : tie.Need-slice-aggregate-result
 slice-aggregate-result c = search needs
 
 returns : tie.Need-returns
-returns c = let a = c .before .before .args in beyond (a .len) (a .place + headerLength) (now (a .bytes)) (omega arith)
+returns c = let a = c .before .before .args in part-beyond (a .len) (a .place + headerLength) (now (a .bytes)) (omega arith)
 
 sub-if2 : tie.Need-sub-if2
 sub-if2 c = search needs
@@ -33,7 +24,7 @@ slice-aggregate-result-2 : tie.Need-slice-aggregate-result-2
 slice-aggregate-result-2 c = search needs
 
 returns-2 : tie.Need-returns-2
-returns-2 c = let a = c .before .before .before .args in beyond (a .len) (a .place + headerLength) (now (a .bytes)) (omega arith)
+returns-2 c = let a = c .before .before .before .args in part-beyond (a .len) (a .place + headerLength) (now (a .bytes)) (omega arith)
 
 add-rest : tie.Need-add-rest
 add-rest c = search needs
@@ -50,7 +41,7 @@ part-rest-end c = search needs
 returns-3 : tie.Need-returns-3
 returns-3 c =
     let a = c .before .before .before .before .args in
-    all (a .len) (a .place + headerLength) (now (a .bytes)) (omega (arith, simp (length-take, length-drop) at (c .if3 .taken)))
+    part-all (a .len) (a .place + headerLength) (now (a .bytes)) (omega (arith, simp (length-take, length-drop) at (c .if3 .taken)))
 
 slice-aggregate-result-3 : tie.Need-slice-aggregate-result-3
 slice-aggregate-result-3 c = sym (length-take-le _ _ (c .before .if3 .left))

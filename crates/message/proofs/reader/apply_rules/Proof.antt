@@ -1,12 +1,30 @@
 -- `message::reader::apply_rules` meets its contract: each `return` is a case of `rules`, with the tests that led to it.
-use mathlib.Core.Path.{sym, _∙_}
+use Prim.Native.Nat.{ℕ, _+_}
+use mathlib.Core.List.{List}
+use mathlib.Core.Path.{_≡_, sym, _∙_}
 use native.Mathlib.Omega.{arith}
+use lib.Dec.{eqb}
+use lib.ListN.{getD, take}
+use lib.Seq.{getD-drop}
 use borrow.Author.Needs.{needs}
 use borrow.Author.Tests.{not-true, not-false}
 use denote.Ref.{now}
+use Rattle.checksum.specs.Checksum.{checksumOf}
+use Rattle.message.specs.Bytes.{fromLe16, headerLength}
+use Rattle.message.specs.Items.{lenIn, payloadIn, payloadChecksumIn}
+use Rattle.message.proofs.Buffer.{lentFrom, tail}
 use Rattle.message.proofs.Rules.{rule-1, rule-2, rule-3, rule-4, rule-5, rule-6}
 use Rattle.message.proofs.reader.apply_rules.Statement.{statement}
 use Rattle.message.proofs.reader.apply_rules.Tie as tie
+
+-- what is compared behind the header
+compared : (n : ℕ) (xs : List ℕ) → n ≡ lenIn xs
+    → eqb (fromLe16 (getD (lentFrom headerLength xs) n 0) (getD (lentFrom headerLength xs) (n + 1) 0))
+    (checksumOf (take n (lentFrom headerLength xs)))
+    ≡ eqb (payloadChecksumIn xs) (checksumOf (payloadIn xs))
+compared n xs count =
+    let next : headerLength + (n + 1) ≡ headerLength + n + 1 = omega arith in
+    rw (tail headerLength xs, getD-drop headerLength xs n 0, getD-drop headerLength xs (n + 1) 0, next, count)
 
 returns : tie.Need-returns
 returns c =
@@ -19,11 +37,8 @@ header-is-sound-requires c κs = search needs
 shared-slice-read-kind : tie.Need-shared-slice-read-kind
 shared-slice-read-kind c = search needs
 
-le16-at-requires : tie.Need-le16-at-requires
-le16-at-requires c κs = search needs
-
-cast-len : tie.Need-cast-len
-cast-len c = search needs
+len-in-requires : tie.Need-len-in-requires
+len-in-requires c κs = search needs
 
 is-allowed-requires : tie.Need-is-allowed-requires
 is-allowed-requires c κs = search needs
@@ -55,7 +70,7 @@ returns-3 c =
     ∙ sym
     (rule-3 (a .dropped) (now (a .rest)) (omega arith)
     (sym (sound .header-is-sound .ensures) ∙ not-false (sound .header-is-sound .result) (c .before .before .if2 .left))
-    (rw (len .le16-at .ensures) at (sym (fine .is-allowed .ensures) ∙ not-true (fine .is-allowed .result) (c .before .if3 .taken))))
+    (rw (len .len-in .ensures .0) at (sym (fine .is-allowed .ensures) ∙ not-true (fine .is-allowed .result) (c .before .if3 .taken))))
 
 total-length-requires : tie.Need-total-length-requires
 total-length-requires c κs = search needs
@@ -70,8 +85,17 @@ returns-4 c =
     sym
     (rule-4 (a .dropped) (now (a .rest)) (omega arith)
     (sym (sound .header-is-sound .ensures) ∙ not-false (sound .header-is-sound .result) (passed .before .if2 .left))
-    (rw (len .le16-at .ensures) at (sym (fine .is-allowed .ensures) ∙ not-false (fine .is-allowed .result) (passed .if3 .left)))
-    (omega (arith, len .le16-at .ensures, c .before .total-length .ensures)))
+    (rw (len .len-in .ensures .0) at (sym (fine .is-allowed .ensures) ∙ not-false (fine .is-allowed .result) (passed .if3 .left)))
+    (omega (arith, len .len-in .ensures .0, c .before .total-length .ensures)))
+
+sub-payload-is-sound : tie.Need-sub-payload-is-sound
+sub-payload-is-sound c = search needs
+
+part-payload-is-sound-start : tie.Need-part-payload-is-sound-start
+part-payload-is-sound-start c = search needs
+
+part-payload-is-sound-end : tie.Need-part-payload-is-sound-end
+part-payload-is-sound-end c = search needs
 
 payload-is-sound-requires : tie.Need-payload-is-sound-requires
 payload-is-sound-requires c κs = search needs
@@ -82,7 +106,7 @@ found-requires-3 c κs = search needs
 returns-5 : tie.Need-returns-5
 returns-5 c =
     let body = c .before .before in
-    let passed = body .before .before .before in
+    let passed = body .before .before .before .before in
     let fine = passed .before .before in
     let len = fine .before in
     let sound = len .before .before in
@@ -91,9 +115,10 @@ returns-5 c =
     ∙ sym
     (rule-5 (a .dropped) (now (a .rest)) (omega arith)
     (sym (sound .header-is-sound .ensures) ∙ not-false (sound .header-is-sound .result) (passed .before .if2 .left))
-    (rw (len .le16-at .ensures) at (sym (fine .is-allowed .ensures) ∙ not-false (fine .is-allowed .result) (passed .if3 .left)))
-    (omega (arith, len .le16-at .ensures, body .before .before .total-length .ensures))
-    (sym (body .payload-is-sound .ensures) ∙ not-true (body .payload-is-sound .result) (c .before .if5 .taken)))
+    (rw (len .len-in .ensures .0) at (sym (fine .is-allowed .ensures) ∙ not-false (fine .is-allowed .result) (passed .if3 .left)))
+    (omega (arith, len .len-in .ensures .0, body .before .before .before .total-length .ensures))
+    (sym (compared _ (now (a .rest)) (len .len-in .ensures .0)) ∙ sym (body .payload-is-sound .ensures)
+    ∙ not-true (body .payload-is-sound .result) (c .before .if5 .taken)))
 
 shared-slice-read-t12 : tie.Need-shared-slice-read-t12
 shared-slice-read-t12 c = search needs
@@ -104,20 +129,21 @@ found-requires-4 c κs = search needs
 returns-6 : tie.Need-returns-6
 returns-6 c =
     let body = c .before .before .before in
-    let count = body .before .before in
+    let count = body .before .before .before in
     let passed = count .before in
     let fine = passed .before .before in
     let len = fine .before in
     let sound = len .before .before in
     let a = sound .before .before .before .args in
     c .found4 .ensures
-    ∙ rw (count .total-length .ensures, len .le16-at .ensures)
+    ∙ rw (count .total-length .ensures, len .len-in .ensures .0)
     (sym
     (rule-6 (a .dropped) (now (a .rest)) (omega arith)
     (sym (sound .header-is-sound .ensures) ∙ not-false (sound .header-is-sound .result) (passed .before .if2 .left))
-    (rw (len .le16-at .ensures) at (sym (fine .is-allowed .ensures) ∙ not-false (fine .is-allowed .result) (passed .if3 .left)))
-    (omega (arith, len .le16-at .ensures, count .total-length .ensures))
-    (sym (body .payload-is-sound .ensures) ∙ not-false (body .payload-is-sound .result) (c .before .before .if5 .left))))
+    (rw (len .len-in .ensures .0) at (sym (fine .is-allowed .ensures) ∙ not-false (fine .is-allowed .result) (passed .if3 .left)))
+    (omega (arith, len .len-in .ensures .0, count .total-length .ensures))
+    (sym (compared _ (now (a .rest)) (len .len-in .ensures .0)) ∙ sym (body .payload-is-sound .ensures)
+    ∙ not-false (body .payload-is-sound .result) (c .before .before .if5 .left))))
 
 pub apply-rules-spec : {M : Type 1} → statement M
 apply-rules-spec =
@@ -126,8 +152,7 @@ apply-rules-spec =
     returns
     header-is-sound-requires
     shared-slice-read-kind
-    le16-at-requires
-    cast-len
+    len-in-requires
     is-allowed-requires
     found-requires
     returns-2
@@ -135,6 +160,9 @@ apply-rules-spec =
     returns-3
     total-length-requires
     returns-4
+    sub-payload-is-sound
+    part-payload-is-sound-start
+    part-payload-is-sound-end
     payload-is-sound-requires
     found-requires-3
     returns-5

@@ -1,0 +1,134 @@
+-- What is held is within the limit, and every byte that is taken is dropped, removed or held.
+use Prim.Native.Nat.{ℕ, zero, suc, _+_, _≤_, _<_}
+use mathlib.Core.Bool.{Bool, true, false, true≢false}
+use mathlib.Core.List.{List, _++_, append-assoc}
+use mathlib.Core.Path.{_≡_, refl, sym, ap, _∙_}
+use native.Mathlib.Omega.{arith}
+use lib.Dec.{leb}
+use lib.ListN.{length, take, drop, length-append, length-drop, take-append-drop}
+use lib.Seq.{take-add, length-take-le}
+use borrow.Author.Tests.{leb-true, leb-false}
+use Rattle.message.specs.Items.{Item, Scan, undecided, decided, scan}
+use Rattle.message.proofs.Found.{scan-within}
+use Rattle.line.specs.Cuts.{handed}
+use Rattle.line.specs.Receiving.{heldMax, decides, taken, left, receive}
+use Rattle.line.proofs.Gives.{undecided-left}
+use Rattle.line.proofs.Got.{Got, got-more, got-item, got}
+use Rattle.line.proofs.Handed.{size, item-shrinks, handed-step}
+use Rattle.line.proofs.Reach.{reach, reached, scan-less}
+
+-- the last byte that is taken decides the item
+module _ (held new : List ℕ) {i : Item} {d r : ℕ} (k : ℕ) (within : suc k ≤ length new)
+    (h : scan (held ++ take (suc k) new) ≡ decided i d r) (none : decides (scan (held ++ take k new)) ≡ false) where
+  one-less : (held ++ take k new) ++ take 1 (drop k new) ≡ held ++ take (suc k) new
+  one-less =
+      let sum : k + 1 ≡ suc k = omega arith in
+      append-assoc held (take k new) (take 1 (drop k new))
+      ∙ ap (λ (l : List ℕ). held ++ l) (sym (take-add k 1 new) ∙ ap (λ (n : ℕ). take n new) sum)
+
+  size-less : length (held ++ take k new) ≡ length held + k
+  size-less = length-append held (take k new) ∙ ap (λ (n : ℕ). length held + n) (length-take-le k new (omega arith))
+
+  last-by : (b : Bool) → leb (d + reach i (drop d (held ++ take (suc k) new))) (length held + k) ≡ b
+      → length held + k < d + reach i (drop d (held ++ take (suc k) new))
+  last-by false l = leb-false (d + reach i (drop d (held ++ take (suc k) new))) (length held + k) l
+  last-by true l =
+      let enough = leb-true (d + reach i (drop d (held ++ take (suc k) new))) (length held + k) l in
+      let there = scan-less (held ++ take k new) (take 1 (drop k new)) {i = i} {d = d} {r = r} (rw one-less h)
+      (rw (one-less, size-less) enough) in
+      absurd (true≢false (sym (ap decides there) ∙ none))
+
+  last-needed : length held + k < d + reach i (drop d (held ++ take (suc k) new))
+  last-needed = last-by (leb (d + reach i (drop d (held ++ take (suc k) new))) (length held + k)) refl
+
+-- so no more is held than the limit, where no more was
+item-bounded : (held new : List ℕ) {i : Item} {d r : ℕ} (k : ℕ) → length held ≤ heldMax → k ≤ length new
+    → scan (held ++ take k new) ≡ decided i d r → ((j : ℕ) → j < k → decides (scan (held ++ take j new)) ≡ false)
+    → length (drop (d + r) (held ++ take k new)) ≤ heldMax
+item-bounded held new {i} {d} {r} zero few within h none =
+    rw (length-drop (d + r) (held ++ take 0 new), length-append held (take 0 new)) (omega arith)
+item-bounded held new {i} {d} {r} (suc k) few within h none =
+    let b = reached (held ++ take (suc k) new) h in
+    let l = last-needed held new {i = i} {d = d} {r = r} k within h (none k (omega arith)) in
+    let w = scan-within (held ++ take (suc k) new) h in
+    rw (length-drop (d + r) (held ++ take (suc k) new), length-append held (take (suc k) new), length-take-le (suc k) new within)
+    (omega (arith, b .longest, l, w))
+
+bounded-by : (held new : List ℕ) → Got held new → length held ≤ heldMax → length (receive held new .held) ≤ heldMax
+bounded-by held new (got-more h got-it) few = rw (got-it, h) (undecided-left (held ++ new) h .1)
+bounded-by held new (got-item k within h none got-it) few = rw (got-it, h) (item-bounded held new k few within h none)
+
+pub receive-bounded : (held new : List ℕ) → length held ≤ heldMax → length (receive held new .held) ≤ heldMax
+receive-bounded held new few = bounded-by held new (got held new) few
+
+-- how many bytes go with what is said: those dropped, and those removed with an item
+abbrev pub gone : Scan → ℕ
+gone (undecided d) = d
+gone (decided i d r) = d + r
+
+abbrev pub goneIn : (held new : List ℕ) → ℕ
+goneIn held new = gone (scan (held ++ take (receive held new .taken) new))
+
+-- all that was handed in: what went, in order, then what is held in the end
+pub record Accounted (held piece : List ℕ) : Type 0 where
+  pub gone : List ℕ
+  pub all : held ++ piece ≡ gone ++ handed held piece .held
+
+-- the bytes that a call looks at: those that go, then those held
+accounted-by : (s : Scan) (xs : List ℕ) → xs ≡ take (gone s) xs ++ left s xs
+accounted-by (undecided d) xs = sym (take-append-drop d xs)
+accounted-by (decided i d r) xs = sym (take-append-drop (d + r) xs)
+
+pub receive-accounts : (held new : List ℕ)
+    → held ++ take (receive held new .taken) new ≡ take (goneIn held new) (held ++ take (receive held new .taken) new) ++ receive held new .held
+unfolding receive
+receive-accounts held new = accounted-by (scan (held ++ take (taken held new) new)) (held ++ take (taken held new) new)
+
+-- the same until *more*: what is held in the end is the end of all that was handed in
+all-split : (held piece : List ℕ) (t : ℕ) → (held ++ take t piece) ++ drop t piece ≡ held ++ piece
+all-split held piece t =
+    append-assoc held (take t piece) (drop t piece) ∙ ap (λ (l : List ℕ). held ++ l) (take-append-drop t piece)
+
+module _ (n : ℕ) (again : (held piece : List ℕ) → size held piece < n → Accounted held piece) where
+  accounts-by : (held piece : List ℕ) → Got held piece → size held piece < suc n → Accounted held piece
+  accounts-by held piece (got-more {e} h got-it) few = record {
+    gone = take e (held ++ piece);
+    all = rw (handed-step held piece, got-it, h) (sym (take-append-drop e (held ++ piece)));
+  }
+  accounts-by held piece (got-item {i} {d} {r} t within h none got-it) few =
+      let shrinks = item-shrinks held piece t within h in
+      let rest = again (drop (d + r) (held ++ take t piece)) (drop t piece) (omega arith) in
+      record {
+        gone = take (d + r) (held ++ take t piece) ++ rest .gone;
+        all =
+            rw (handed-step held piece, got-it, h)
+            (sym (all-split held piece t)
+            ∙ ap (λ (l : List ℕ). l ++ drop t piece) (sym (take-append-drop (d + r) (held ++ take t piece)))
+            ∙ append-assoc (take (d + r) (held ++ take t piece)) (drop (d + r) (held ++ take t piece)) (drop t piece)
+            ∙ ap (λ (l : List ℕ). take (d + r) (held ++ take t piece) ++ l) (rest .all)
+            ∙ sym (append-assoc (take (d + r) (held ++ take t piece)) (rest .gone) _));
+      }
+
+accounts-within : (n : ℕ) (held piece : List ℕ) → size held piece < n → Accounted held piece
+accounts-within zero held piece few = absurd (omega arith)
+accounts-within (suc n) held piece few = accounts-by n (accounts-within n) held piece (got held piece) few
+
+pub handed-accounts : (held piece : List ℕ) → Accounted held piece
+handed-accounts held piece = accounts-within (suc (size held piece)) held piece (omega arith)
+
+-- and that is within the limit
+bounds-by : (n : ℕ) → ((held piece : List ℕ) → size held piece < n → length held ≤ heldMax → length (handed held piece .held) ≤ heldMax)
+    → (held piece : List ℕ) → Got held piece → size held piece < suc n → length held ≤ heldMax → length (handed held piece .held) ≤ heldMax
+bounds-by n next held piece (got-more h got-it) few short =
+    rw (handed-step held piece, got-it, h) (undecided-left (held ++ piece) h .1)
+bounds-by n next held piece (got-item {i} {d} {r} t within h none got-it) few short =
+    let shrinks = item-shrinks held piece t within h in
+    rw (handed-step held piece, got-it, h)
+    (next (drop (d + r) (held ++ take t piece)) (drop t piece) (omega arith) (item-bounded held piece t short within h none))
+
+bounds-within : (n : ℕ) (held piece : List ℕ) → size held piece < n → length held ≤ heldMax → length (handed held piece .held) ≤ heldMax
+bounds-within zero held piece few short = absurd (omega arith)
+bounds-within (suc n) held piece few short = bounds-by n (bounds-within n) held piece (got held piece) few short
+
+pub handed-bounded : (held piece : List ℕ) → length held ≤ heldMax → length (handed held piece .held) ≤ heldMax
+handed-bounded held piece short = bounds-within (suc (size held piece)) held piece (omega arith) short

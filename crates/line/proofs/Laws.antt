@@ -1,0 +1,68 @@
+-- The line's laws, over the definitions and so over the promises of `decide` and `receive`: what a call takes, demand 2's cuts, the
+-- limit of what is held, and where every byte goes. Each is shown in the file that its proof cites.
+use Prim.Native.Nat.{ℕ, _≤_, _<_}
+use mathlib.Core.Bool.{false}
+use mathlib.Core.List.{List, [], _∷_, _++_}
+use mathlib.Core.Path.{_≡_}
+use lib.ListN.{length, take, drop}
+use Rattle.message.specs.Bytes.{maxLen}
+use Rattle.message.specs.Items.{message, scan}
+use Rattle.line.specs.Cuts.{found, before, handed, handedEach, joined}
+use Rattle.line.specs.Receiving.{heldMax, decides, more, item, answered, receive}
+use Rattle.line.proofs.Bounds.{goneIn, Accounted}
+use Rattle.line.proofs.Bounds as bounds
+use Rattle.line.proofs.Got.{Removes}
+use Rattle.line.proofs.Got as got
+use Rattle.line.proofs.Handed as hand
+
+-- "the smallest number of new bytes .. that decides one": fewer decide nothing
+pub fewer-decide-nothing : (held new : List ℕ) (k : ℕ) → k < receive held new .taken → decides (scan (held ++ take k new)) ≡ false
+fewer-decide-nothing = got.fewer-decide-nothing
+
+-- "if none does, all"
+pub more-takes-all : (held new : List ℕ) → receive held new .answer ≡ more → receive held new .taken ≡ length new
+more-takes-all = got.more-takes-all
+
+-- the item is the one that all the bytes together begin with
+pub item-of-all : (held new : List ℕ) → receive held new .answer ≡ answered (scan (held ++ new))
+item-of-all = got.item-of-all
+
+-- an item takes no more than there is and removes two bytes at least, so that handing in comes to an end
+pub item-removes : (held new : List ℕ) {i : _} → receive held new .answer ≡ item i → Removes held new
+item-removes = got.item-removes
+
+-- a message that is answered has a LEN within the limit
+pub message-short : (held new : List ℕ) {t q len : ℕ} → receive held new .answer ≡ item (message t q len) → len ≤ maxLen
+message-short = got.message-short
+
+-- handing a piece in, its untaken rest again, until *more*
+pub handed-more : (held piece : List ℕ) → receive held piece .answer ≡ more
+    → handed held piece ≡ record { items = []; held = receive held piece .held }
+handed-more held piece h = rw (hand.handed-step held piece, h)
+
+pub handed-item : (held piece : List ℕ) {i : _} → receive held piece .answer ≡ item i
+    → handed held piece ≡ before (found i (receive held piece .payload) ∷ []) (handed (receive held piece .held) (drop (receive held piece .taken) piece))
+handed-item held piece h = rw (hand.handed-step held piece, h)
+
+-- demand 2's cuts: any pieces, one after the other, give the same items in the same order and the same held bytes as the pieces joined
+pub cuts : (pieces : List (List ℕ)) → handedEach [] pieces ≡ handed [] (joined pieces)
+cuts = hand.cuts
+
+-- and so from any held bytes on, where there is a piece at all
+pub cuts-from : (held piece : List ℕ) (pieces : List (List ℕ)) → handedEach held (piece ∷ pieces) ≡ handed held (joined (piece ∷ pieces))
+cuts-from = hand.each-joined
+
+-- "At most 265 bytes are held.": after every call, and in the end
+pub receive-bounded : (held new : List ℕ) → length held ≤ heldMax → length (receive held new .held) ≤ heldMax
+receive-bounded = bounds.receive-bounded
+
+pub handed-bounded : (held piece : List ℕ) → length held ≤ heldMax → length (handed held piece .held) ≤ heldMax
+handed-bounded = bounds.handed-bounded
+
+-- every byte that a call has taken is dropped, removed or held, and so is every byte that was handed in
+pub receive-accounts : (held new : List ℕ)
+    → held ++ take (receive held new .taken) new ≡ take (goneIn held new) (held ++ take (receive held new .taken) new) ++ receive held new .held
+receive-accounts = bounds.receive-accounts
+
+pub handed-accounts : (held piece : List ℕ) → Accounted held piece
+handed-accounts = bounds.handed-accounts

@@ -1,0 +1,16 @@
+pub mod Smallest
+pub mod Joined
+pub mod Reach
+pub mod Taking
+pub mod Moving
+pub mod Gives
+pub mod Waiting
+pub mod Whole
+pub mod Start
+pub mod Dropped
+pub mod Got
+pub mod Later
+pub mod Handed
+pub mod Bounds
+pub mod Laws
+pub mod Examples

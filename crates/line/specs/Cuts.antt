@@ -1,0 +1,47 @@
+-- Document 01, demand 2's statement about cuts: "the items found when each piece is handed in, its untaken rest again, until
+-- receive answers *more*".
+use Prim.Native.Nat.{ℕ, zero, suc, _+_}
+use mathlib.Core.List.{List, [], _∷_, _++_}
+use lib.ListN.{length, drop}
+use Rattle.message.specs.Items.{Item}
+use Rattle.line.specs.Receiving.{Answer, more, item, Received, receive}
+
+-- an item that was found, with its payload
+pub data Found : Type 0 where
+  found : Item → (payload : List ℕ) → Found
+
+-- what was found in the end: the items in order, and the bytes held
+pub record Heard : Type 0 where
+  pub items : List Found
+  pub held : List ℕ
+
+-- items found before others
+abbrev pub before : List Found → Heard → Heard
+before items heard = record { items = items ++ heard .items; held = heard .held }
+
+-- what an answer leads to: the end, or one item and what comes after it
+abbrev pub onAnswer : Answer → (end : List ℕ) (payload : List ℕ) (next : Heard) → Heard
+onAnswer more end payload next = record { items = []; held = end }
+onAnswer (item i) end payload next = before (found i payload ∷ []) next
+
+-- a piece is handed in, its untaken rest again, until *more*, at most so many times
+unfoldable pub handedIn : (times : ℕ) (held piece : List ℕ) → Heard
+handedIn zero held piece = record { items = []; held = held }
+handedIn (suc n) held piece =
+    let r = receive held piece in
+    onAnswer (r .answer) (r .held) (r .payload) (handedIn n (r .held) (drop (r .taken) piece))
+
+-- the same until *more*: each item removes bytes, so there are no more items than bytes (law `handed-more`, `handed-item`)
+unfoldable pub handed : (held piece : List ℕ) → Heard
+handed held piece = handedIn (suc (length held + length piece)) held piece
+
+-- each piece of a list is handed in so
+unfoldable pub handedEach : (held : List ℕ) (pieces : List (List ℕ)) → Heard
+handedEach held [] = record { items = []; held = held }
+handedEach held (piece ∷ pieces) =
+    let first = handed held piece in before (first .items) (handedEach (first .held) pieces)
+
+-- the pieces joined
+unfoldable pub joined : List (List ℕ) → List ℕ
+joined [] = []
+joined (piece ∷ pieces) = piece ++ joined pieces

@@ -1,0 +1,22 @@
+// Held bytes and new ones become at most one item a call (document 01, "How bytes become items").
+pub mod decision; // which item, and what is held then
+pub mod payload; // the payload of a message
+pub mod receiving; // the same with the held bytes at the front
+mod store; // bytes moved within the lent array
+
+use message::reader::Item;
+
+// The most bytes that are held between calls.
+pub const HELD_MAX: usize = 265;
+
+// The item that a call decided, or that it wants more bytes.
+pub enum Answer {
+    More,
+    One(Item),
+}
+
+// Where the payload of a message begins: at this place of the lent array, or of the new bytes.
+pub enum Place {
+    Held(usize),
+    New(usize),
+}

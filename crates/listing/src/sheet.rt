@@ -1,0 +1,46 @@
+// Lines to standard output, many at a time: they wait at the front of a lent buffer until it has no room for one more.
+ghost use Prim.Native.Nat.{_≤_, _<_};
+ghost use lib.ListN.{length};
+ghost use Rattle.message.specs.Promises.{itemOf};
+ghost use Rattle.listing.specs.Text.{lenOf};
+use crate::lines::LINE_MAX;
+use crate::lines::put_end;
+use crate::lines::put_line;
+use libc::STDOUT_FILENO;
+use message::reader::Item;
+
+// How many bytes wait, and whether every write was taken whole.
+pub(crate) struct Sheet {
+    pub used: usize,
+    pub fine: bool,
+}
+
+// The line of an item joins those that wait.
+pub(crate) fn add_line(out: &mut [u8], used: usize, item: Item) -> Sheet
+    requires { ⌜ (used ≤ length (now out)) × (16 ≤ length (now out)) × (lenOf (itemOf item) < 1000) ⌝ }
+    ensures { λ r. ⌜ r .used ≤ length (now (out .exit)) ⌝ }
+{
+    if out.len() - used < LINE_MAX {
+        if !io::write_all(STDOUT_FILENO, &out[..used]) {
+            return Sheet {
+                used: 0,
+                fine: false,
+            };
+        }
+        let used = put_line(out, 0, item);
+        return Sheet { used, fine: true };
+    }
+    let used = put_line(out, used, item);
+    Sheet { used, fine: true }
+}
+
+// All lines that wait are written, and the last one behind them. Answers whether every write was taken whole.
+pub(crate) fn end_sheet(out: &mut [u8], used: usize, held: usize) -> bool
+    requires { ⌜ (used ≤ length (now out)) × (16 ≤ length (now out)) × (held < 1000) ⌝ }
+{
+    if !io::write_all(STDOUT_FILENO, &out[..used]) {
+        return false;
+    }
+    let end = put_end(out, 0, held);
+    io::write_all(STDOUT_FILENO, &out[..end])
+}
