@@ -35,6 +35,15 @@ pub fn messages(length: usize) -> Vec<u8> {
     bytes
 }
 
+/// Messages with a bit changed in every hundredth byte.
+pub fn damaged(length: usize) -> Vec<u8> {
+    let mut bytes = messages(length);
+    for byte in bytes.iter_mut().step_by(100) {
+        *byte ^= 0x10;
+    }
+    bytes
+}
+
 /// A length drawn by `chance`, but near the end one that leaves no gap.
 fn payload_length(room: usize, chance: u8) -> usize {
     if room <= OVERHEAD + LONGEST {

@@ -1,15 +1,27 @@
-//! The proved functions beside Rust ones of this folder, on 1 MiB each.
+//! The proved functions beside Rust ones of this folder, on 1 MiB each, and the program `lister` on 64 MiB.
 
 mod checksum;
 mod contest;
 mod input;
+mod line;
+mod lister;
+mod memory;
 mod reader;
 
 use contest::contest;
 
 const LENGTH: usize = 1 << 20;
 
-fn main() {
+fn main() -> std::io::Result<()> {
+    let lister = lister::report()?;
+    checksums();
+    readers();
+    lines();
+    println!("{lister}");
+    Ok(())
+}
+
+fn checksums() {
     contest(
         "checksum, 1 MiB",
         &input::random(LENGTH),
@@ -19,6 +31,9 @@ fn main() {
             ("Rust, byte table", checksum::by_table),
         ],
     );
+}
+
+fn readers() {
     let bytes = input::messages(LENGTH);
     reader::must_agree(&bytes);
     contest(
@@ -42,4 +57,26 @@ fn main() {
             &[("library (proved)", reader::library), ("Rust", reader::by_bits)],
         );
     }
+}
+
+fn lines() {
+    let bytes = input::messages(LENGTH);
+    for bytes in [
+        &bytes,
+        &input::damaged(LENGTH),
+        &input::junk(LENGTH),
+        &vec![0xAA; LENGTH],
+    ] {
+        line::must_agree(bytes);
+    }
+    contest(
+        &format!("line, 1 MiB of messages in pieces of {}", line::PIECE),
+        &bytes,
+        &[
+            ("library (proved)", line::library),
+            ("Rust, its checksum bit by bit", line::by_bits),
+            ("Rust, its checksum by byte table", line::by_table),
+        ],
+    );
+    println!("line: the held array starts anew in each run; nothing is cleared between its calls");
 }

@@ -3,7 +3,7 @@
 use crate::checksum;
 use binding::{Reading, DAMAGED_HEADER, DAMAGED_PAYLOAD, FORBIDDEN, MESSAGE, UNDECIDED};
 
-const SYN: [u8; 2] = [0xAA, 0x55];
+pub const SYN: [u8; 2] = [0xAA, 0x55];
 
 /// Never inlined: the library's reader is not either.
 #[inline(never)]
@@ -41,7 +41,7 @@ fn read(bytes: &[u8], checksum: impl Fn(&[u8]) -> u16) -> Reading {
     }
 }
 
-fn is_allowed(kind: u8, len: usize) -> bool {
+pub fn is_allowed(kind: u8, len: usize) -> bool {
     match kind {
         0x04 | 0x40 => len == 0,
         0x80 | 0x00 => (1..=256).contains(&len),
@@ -50,7 +50,7 @@ fn is_allowed(kind: u8, len: usize) -> bool {
 }
 
 /// Where AA 55 stands first, or a lone AA at the end; otherwise the end.
-fn front(bytes: &[u8]) -> usize {
+pub fn front(bytes: &[u8]) -> usize {
     let lone = || bytes.len() - usize::from(bytes.last() == Some(&SYN[0]));
     bytes.windows(2).position(|pair| pair == SYN).unwrap_or_else(lone)
 }

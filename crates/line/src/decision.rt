@@ -1,4 +1,5 @@
-// Which item held bytes and new ones decide, and what is held then.
+// Which item held bytes and new ones decide, and what is held then (document 01, "How bytes become items"). A byte is moved only
+// where it is held: into the array, or to its front.
 ghost use mathlib.Core.Path.{_≡_};
 ghost use mathlib.Core.Bool.{not, _&&_};
 ghost use mathlib.Core.List.{[], _++_};
@@ -30,8 +31,8 @@ use message::reader::len_in;
 use message::reader::payload_is_sound;
 use message::reader::read;
 
-// What was decided: the answer, how many new bytes it takes, the bytes to hold as a part of the array, and where the payload of a
-// message begins.
+// What was decided: the answer, how many new bytes it takes, the part of the array that is to be held, and where the payload of a
+// message begins. The payload stays where it stands until `settle` puts that part at the front.
 pub struct Decision {
     pub answer: Answer,
     pub taken: usize,
@@ -40,10 +41,12 @@ pub struct Decision {
     pub payload: Place,
 }
 
-// Where a payload begins behind a header whose SYN is gone.
+// Where a payload begins, in bytes, behind a header whose SYN is gone.
 const BEHIND_SYN: usize = 6;
 
-// The item that the first count bytes of the array and the new bytes decide.
+// The item that the array's first count bytes and the new ones decide, with all that a call gives. For the crates above, which
+// lend HELD_MAX bytes and have refused a larger count: it is their malformed endpoint.
+// Ruled out: a damaged message that is removed whole, and a payload that begins where SYN stood.
 pub fn decide(array: &mut [u8], count: usize, new: &[u8]) -> Decision
     requires { ⌜ (length (now array) ≡ heldMax) × (count ≤ heldMax) ⌝ }
     ensures { λ r. ⌜ Decides r (take count (now (array .entry))) (now (new .entry)) (now (array .exit)) ⌝ }
@@ -75,7 +78,7 @@ fn in_array(item: Item, dropped: usize, removed: usize, count: usize, taken: usi
     }
 }
 
-// No item of the held bytes, of which some are dropped.
+// No item of the held bytes: those that are dropped go.
 fn without_dropped(array: &mut [u8], dropped: usize, count: usize, new: &[u8]) -> Decision
     requires { ⌜ (length (now array) ≡ heldMax) × (count ≤ heldMax) × (scan (take count (now array)) ≡ undecided dropped) ⌝ }
     ensures { λ r. ⌜ Decides r (take count (now (array .entry))) (now (new .entry)) (now (array .exit)) ⌝ }
@@ -91,7 +94,7 @@ fn without_dropped(array: &mut [u8], dropped: usize, count: usize, new: &[u8]) -
     after_header(array, kept, 0, new)
 }
 
-// The start of a header is held.
+// The start of a header is held, its SYN in front or the first byte of one.
 fn after_start(array: &mut [u8], kept: usize, new: &[u8]) -> Decision
     requires { ⌜ (length (now array) ≡ heldMax) × (0 < kept) × (kept < headerLength) × (scan (take kept (now array)) ≡ undecided 0) ⌝ }
     ensures { λ r. ⌜ Decides r (take kept (now (array .entry))) (now (new .entry)) (now (array .exit)) ⌝ }
@@ -160,7 +163,7 @@ fn after_header(array: &mut [u8], first: usize, before: usize, new: &[u8]) -> De
     whole_message(array, first, before, need, new)
 }
 
-// The message is whole with `need` new bytes more.
+// The message is whole with `need` new bytes more. SYN goes with every item, so they are put behind the rest without it.
 fn whole_message(array: &mut [u8], first: usize, before: usize, need: usize, new: &[u8]) -> Decision
     requires { ⌜ (length (now array) ≡ heldMax) × (before ≤ length (now new)) × (headerLength ≤ first + before) × (first + before ≤ heldMax)
         × (take (first + before) (now array) ≡ take first (now array) ++ take before (now new))
@@ -169,29 +172,32 @@ fn whole_message(array: &mut [u8], first: usize, before: usize, need: usize, new
     ensures { λ r. ⌜ Decides r (take first (now (array .entry))) (now (new .entry)) (now (array .exit)) ⌝ }
 {
     let end = first + before;
+    let taken = before + need;
+    let whole = end + need;
     let kind = array[TYPE_PLACE];
     let seq = Seq(array[SEQ_PLACE]);
     let len = len_in(array);
-    append_behind_syn(array, end, &new[before..before + need]);
+    append_behind_syn(array, end, &new[before..taken]);
     if payload_is_sound(&array[BEHIND_SYN..], len) {
         return Decision {
             answer: Answer::One(Item::Message { kind, seq, len }),
-            taken: before + need,
+            taken,
             start: 0,
             count: 0,
             payload: Place::Held(BEHIND_SYN),
         };
     }
+    // the search goes on behind SYN, and not behind the message
     Decision {
         answer: Answer::One(Item::DamagedPayload),
-        taken: before + need,
+        taken,
         start: 0,
-        count: end + need - SYN_LENGTH,
-        payload: Place::Held(BEHIND_SYN),
+        count: whole - SYN_LENGTH,
+        payload: Place::Held(0),
     }
 }
 
-// Removes the SYN in front and puts bytes behind the first end ones: SYN goes with every item, and without it a message fits.
+// Moves the first end bytes but SYN to the front, and puts bytes behind them. The longest message fits without its SYN.
 fn append_behind_syn(array: &mut [u8], end: usize, bytes: &[u8])
     requires { ⌜ (length syn ≤ end) × (end ≤ length (now array)) × (end + length (now bytes) ≤ length (now array) + length syn) ⌝ }
     ensures { λ _. ⌜ now (array .exit) ≡ placed 0 (drop (length syn) (take end (now (array .entry))) ++ now (bytes .entry)) (now (array .entry)) ⌝ }
@@ -201,7 +207,7 @@ fn append_behind_syn(array: &mut [u8], end: usize, bytes: &[u8])
     put_at(array, kept, bytes);
 }
 
-// Nothing is held.
+// Nothing is held: an item is read where the new bytes stand.
 fn in_new(array: &mut [u8], new: &[u8]) -> Decision
     requires { ⌜ length (now array) ≡ heldMax ⌝ }
     ensures { λ r. ⌜ Decides r [] (now (new .entry)) (now (array .exit)) ⌝ }

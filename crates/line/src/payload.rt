@@ -9,6 +9,7 @@ use message::reader::Item;
 
 // The payload of what `decide` found, as a part of the array that it left or of the new bytes, and no copy: empty for all but a
 // message.
+// Ruled out: the payload of a damaged message, and a part of the array where the message stands in the new bytes.
 pub fn payload<'a>(array: &'a [u8], new: &'a [u8], decision: Decision) -> &'a [u8]
     ensures { λ r. ⌜ now r ≡ partOf (decision .answer) (decision .payload) (now (array .entry)) (now (new .entry)) ⌝ }
 {

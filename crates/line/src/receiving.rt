@@ -17,8 +17,8 @@ pub struct Received {
     pub count: usize,
 }
 
-// The next item of the array's first count bytes and of the new ones; the bytes held then stand at the front. More than HELD_MAX
-// held is a malformed endpoint, which the caller has refused.
+// The next item of the array's first count bytes and of the new ones; the bytes held then stand at the front. For the crates above,
+// which have refused a count over HELD_MAX: it is their malformed endpoint.
 // Ruled out: a byte taken that the item does not need, and held bytes lost when there are no new ones.
 pub fn receive(array: &mut [u8; HELD_MAX], count: usize, new: &[u8]) -> Received
     requires { ⌜ count ≤ heldMax ⌝ }
@@ -43,7 +43,8 @@ pub fn receive_in(array: &mut [u8], count: usize, new: &[u8]) -> Received
     }
 }
 
-// Puts the bytes to be held at the front of the array, when the payload is no longer needed, and answers how many they are.
+// Puts the bytes to be held at the front of the array and answers how many they are, when the payload is no longer needed. For the
+// crates above, with what `decide` answered for this array.
 pub fn settle(array: &mut [u8], decision: Decision) -> usize
     requires { ⌜ decision .start + decision .count ≤ length (now array) ⌝ }
     ensures { λ r. ⌜ (r ≡ decision .count) × (take r (now (array .exit)) ≡ take (decision .count) (drop (decision .start) (now (array .entry)))) ⌝ }

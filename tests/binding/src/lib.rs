@@ -1,4 +1,7 @@
-//! The functions of `include/fizrahum.h`. Nothing checks these declarations against the proved source, so they are few.
+//! The functions of `include/fizrahum.h`, and the line's. Nothing checks these declarations against the proved source, so
+//! they are few.
+
+pub mod line;
 
 /// The functions as C sees them.
 pub mod c {

@@ -2,6 +2,8 @@
 
 pub mod captures;
 pub mod damage;
+pub mod held;
+pub mod line;
 pub mod lister;
 pub mod listings;
 mod random;

@@ -25,7 +25,7 @@ pub struct Received {
 /// What stays between the calls: the held bytes, none at first.
 #[derive(Clone, Debug, Default)]
 pub struct Line {
-    held: Vec<u8>,
+    pub held: Vec<u8>,
 }
 
 impl Line {

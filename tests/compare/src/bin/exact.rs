@@ -1,18 +1,22 @@
 //! Some hundreds of comparisons with everything that the C functions touch in heap memory of exactly the length handed in,
 //! so that valgrind sees a step past either end. `tests/run` runs this under valgrind.
 
+use binding::line::{receive_into, Numbers, Received, MORE, MOST_HELD};
 use binding::Reading;
+use compare::held::{held_and_new, CONTENTS};
 use compare::reader::Tally;
 use compare::slices::{damaged, junk, message, mixture, KINDS};
 use compare::writer::places;
-use compare::{writer, Random};
+use compare::{line, writer, Random};
 use independent::examples::MESSAGES;
+use independent::line::Line;
 use independent::message::Message;
 
 fn main() {
     let mut random = Random::seeded("exact heap buffers");
     read_slices(&mut random);
     write_messages(&mut random);
+    receive_pieces(&mut random);
 }
 
 fn read_slices(random: &mut Random) {
@@ -74,4 +78,62 @@ fn write_messages(random: &mut Random) {
         }
     }
     tally.report("exact heap buffers", [72, 400, 800]);
+}
+
+fn receive_pieces(random: &mut Random) {
+    let mut tally = line::Tally::default();
+    for content in CONTENTS {
+        // 0 and 265 are among them
+        for count in (0..=MOST_HELD).step_by(5) {
+            let (held, new) = held_and_new(count, content, random);
+            receive(&mut tally, &mut Line { held }, &new);
+        }
+    }
+    tally.report("exact heap buffers", [500, 1_000, 50, 200, 500], 1_000, 100);
+    for length in [0, 1, 264, 265, 266, 300] {
+        let array = random.bytes(length);
+        for count in [0, 1, length, 265, 266, usize::MAX] {
+            if length != MOST_HELD || count > MOST_HELD {
+                line::refused(&array, count, &message(random));
+            }
+        }
+    }
+}
+
+/// Both lines until *more*, the C one with its own array and new bytes for each call.
+fn receive(tally: &mut line::Tally, line: &mut Line, mut piece: &[u8]) {
+    loop {
+        let mut array: Box<[u8]> = [0xEE; MOST_HELD].into();
+        array[..line.held.len()].copy_from_slice(&line.held);
+        let new: Box<[u8]> = piece.into();
+        let (found, now_held) = receive_once(&mut array, line.held.len(), &new);
+        assert!(*new == *piece, "the function changed the new bytes");
+        tally.agree(line, piece, found, &array[..now_held]);
+        if found.answer == MORE {
+            return;
+        }
+        piece = &piece[found.taken..];
+    }
+}
+
+/// One call with each of its five numbers in a place of its own.
+fn receive_once(array: &mut [u8], count: usize, new: &[u8]) -> (Received, usize) {
+    let [mut kind, mut seq] = [(); 2].map(|()| Box::new(0xEE_u8));
+    let [mut len, mut taken, mut now_held] = [(); 3].map(|()| Box::new(usize::MAX));
+    let numbers = Numbers {
+        kind: &mut kind,
+        seq: &mut seq,
+        len: &mut len,
+        taken: &mut taken,
+        now_held: &mut now_held,
+    };
+    let answer = receive_into(array, count, new, numbers);
+    let received = Received {
+        answer,
+        kind: *kind,
+        seq: *seq,
+        len: *len,
+        taken: *taken,
+    };
+    (received, *now_held)
 }

@@ -12,17 +12,24 @@ use Rattle.line.proofs.decision.whole_message.Tie as tie
 add-end : tie.Need-add-end
 add-end c = search needs
 
+add-taken : tie.Need-add-taken
+add-taken c = search needs
+
+add-whole : tie.Need-add-whole
+add-whole c =
+    let p = c .before .before .pre in
+    let a = c .before .before .args in
+    let w = waits-for (a .first) (a .before) (now (a .array)) (now (a .new)) (standing (p .0) (p .1) (p .2) (p .3) (p .4) (p .5)) in
+    omega (arith, w)
+
 slice-read-kind : tie.Need-slice-read-kind
 slice-read-kind c = search needs
 
-slice-read-t11 : tie.Need-slice-read-t11
-slice-read-t11 c = search needs
+slice-read-t13 : tie.Need-slice-read-t13
+slice-read-t13 c = search needs
 
 len-in-requires : tie.Need-len-in-requires
 len-in-requires c κs = search needs
-
-add-append-behind-syn : tie.Need-add-append-behind-syn
-add-append-behind-syn c = search needs
 
 sub-append-behind-syn : tie.Need-sub-append-behind-syn
 sub-append-behind-syn c = search needs
@@ -56,9 +63,6 @@ payload-is-sound-requires c κs =
     let w = waits-for (a .first) (a .before) (now (a .array)) (now (a .new)) (standing (p .0) (p .1) (p .2) (p .3) (p .4) (p .5)) in
     simp (length-take, length-drop) (omega (arith, w, c .before .before .before .before .before .before .before .len-in .ensures))
 
-add-t29 : tie.Need-add-t29
-add-t29 c = search needs
-
 same-length : tie.Need-same-length
 same-length c = search needs
 
@@ -72,14 +76,8 @@ returns c =
     gives-message (a .first) (a .before) (now (a .array)) (now (a .new)) s (a .need) (p .6) (p .7) _ left _ _ _ _
     (sym same ∙ sym (c .before .payload-is-sound .ensures) ∙ c .if1 .taken) (refl, refl, c .before .before .before .before .before .before .before .before .before .len-in .ensures .0) (refl, refl, refl, refl, refl)
 
-add-t20 : tie.Need-add-t20
-add-t20 c = search needs
-
-add-t18 : tie.Need-add-t18
-add-t18 c = search needs
-
-sub-t33 : tie.Need-sub-t33
-sub-t33 c = search needs
+sub-t21 : tie.Need-sub-t21
+sub-t21 c = search needs
 
 same-length-2 : tie.Need-same-length-2
 same-length-2 c = search needs
@@ -99,10 +97,11 @@ whole-message-spec =
     tie.close
     (tie.spec
     add-end
+    add-taken
+    add-whole
     slice-read-kind
-    slice-read-t11
+    slice-read-t13
     len-in-requires
-    add-append-behind-syn
     sub-append-behind-syn
     part-append-behind-syn-start
     part-append-behind-syn-end
@@ -111,11 +110,8 @@ whole-message-spec =
     part-payload-is-sound-start
     part-payload-is-sound-end
     payload-is-sound-requires
-    add-t29
     same-length
     returns
-    add-t20
-    add-t18
-    sub-t33
+    sub-t21
     same-length-2
     returns-2)
