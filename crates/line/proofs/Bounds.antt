@@ -80,7 +80,8 @@ accounted-by (undecided d) xs = sym (take-append-drop d xs)
 accounted-by (decided i d r) xs = sym (take-append-drop (d + r) xs)
 
 pub receive-accounts : (held new : List ℕ)
-    → held ++ take (receive held new .taken) new ≡ take (goneIn held new) (held ++ take (receive held new .taken) new) ++ receive held new .held
+    → held ++ take (receive held new .taken) new
+    ≡ take (goneIn held new) (held ++ take (receive held new .taken) new) ++ receive held new .held
 unfolding receive
 receive-accounts held new = accounted-by (scan (held ++ take (taken held new) new)) (held ++ take (taken held new) new)
 
@@ -117,8 +118,10 @@ pub handed-accounts : (held piece : List ℕ) → Accounted held piece
 handed-accounts held piece = accounts-within (suc (size held piece)) held piece (omega arith)
 
 -- and that is within the limit
-bounds-by : (n : ℕ) → ((held piece : List ℕ) → size held piece < n → length held ≤ heldMax → length (handed held piece .held) ≤ heldMax)
-    → (held piece : List ℕ) → Got held piece → size held piece < suc n → length held ≤ heldMax → length (handed held piece .held) ≤ heldMax
+bounds-by : (n : ℕ)
+    → ((held piece : List ℕ) → size held piece < n → length held ≤ heldMax → length (handed held piece .held) ≤ heldMax)
+    → (held piece : List ℕ) → Got held piece → size held piece < suc n → length held ≤ heldMax
+    → length (handed held piece .held) ≤ heldMax
 bounds-by n next held piece (got-more h got-it) few short =
     rw (handed-step held piece, got-it, h) (undecided-left (held ++ piece) h .1)
 bounds-by n next held piece (got-item {i} {d} {r} t within h none got-it) few short =
@@ -126,7 +129,8 @@ bounds-by n next held piece (got-item {i} {d} {r} t within h none got-it) few sh
     rw (handed-step held piece, got-it, h)
     (next (drop (d + r) (held ++ take t piece)) (drop t piece) (omega arith) (item-bounded held piece t short within h none))
 
-bounds-within : (n : ℕ) (held piece : List ℕ) → size held piece < n → length held ≤ heldMax → length (handed held piece .held) ≤ heldMax
+bounds-within : (n : ℕ) (held piece : List ℕ) → size held piece < n → length held ≤ heldMax
+    → length (handed held piece .held) ≤ heldMax
 bounds-within zero held piece few short = absurd (omega arith)
 bounds-within (suc n) held piece few short = bounds-by n (bounds-within n) held piece (got held piece) few short
 

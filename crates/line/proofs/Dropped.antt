@@ -21,7 +21,8 @@ left-by d (decided i e r) h = let z : _≡_ {A = ℕ} 0 1 = cc in absurd (omega 
 pub left-waits : (xs : List ℕ) {d : ℕ} → scan xs ≡ undecided d → scan (drop d xs) ≡ undecided 0
 left-waits xs {d} h =
     let same : d ≡ dropped xs = undecided-left xs h .0 in
-    let joined : scan xs ≡ later d (scan (drop d xs)) = rw same (rw (append-nil xs, append-nil (drop (dropped xs) xs)) at (scan-joined xs [])) in
+    let joined : scan xs ≡ later d (scan (drop d xs)) =
+    rw same (rw (append-nil xs, append-nil (drop (dropped xs) xs)) at (scan-joined xs [])) in
     left-by d (scan (drop d xs)) (sym h ∙ joined)
 
 -- and receives the same

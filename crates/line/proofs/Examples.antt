@@ -28,11 +28,18 @@ example-8 = refl
 
 -- "Case 3 with last byte FE: damaged payload, .. 8 held"
 pub example-9 : receive [] (take 9 case-3 ++ (0xFE ∷ []))
-    ≡ record { answer = item damagedPayload; payload = []; taken = 10; held = 0x40 ∷ 0x00 ∷ 0x00 ∷ 0x00 ∷ 0x5C ∷ 0xEA ∷ 0xFF ∷ 0xFE ∷ [] }
+    ≡ record {
+      answer = item damagedPayload;
+      payload = [];
+      taken = 10;
+      held =
+          0x40 ∷ 0x00 ∷ 0x00 ∷ 0x00 ∷ 0x5C ∷ 0xEA ∷ 0xFF ∷ 0xFE ∷ [];
+    }
 unfolding receive taken smallest scan dropped stands rules payloadOf allowed checksumOf checksumFrom withBits withBit bitsOf
 example-9 = refl
 
 -- the lister's: "case 3 followed by the first 17 bytes of case 6, whole": one ACK, 17 held
-pub example-lister : handed [] (case-3 ++ take 17 case-6) ≡ record { items = found (message ack 0 0) [] ∷ []; held = take 17 case-6 }
+pub example-lister : handed [] (case-3 ++ take 17 case-6)
+    ≡ record { items = found (message ack 0 0) [] ∷ []; held = take 17 case-6 }
 unfolding handed handedIn receive taken smallest scan dropped stands rules payloadOf allowed checksumOf checksumFrom withBits withBit bitsOf
 example-lister = refl

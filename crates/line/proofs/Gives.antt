@@ -69,7 +69,8 @@ module _ (array xs : List ℕ) (stands : take (length xs) array ≡ xs) where
   payload-in DamagedPayload n r new h = rw h
   payload-in (Message t q len) n r new h =
       let m = message-at xs h in
-      rw (h, ← stands) (sym (part (n + headerLength) len (length xs) array (omega (arith, length-drop (dropped xs) xs, dropped-within xs))))
+      rw (h, ← stands)
+      (sym (part (n + headerLength) len (length xs) array (omega (arith, length-drop (dropped xs) xs, dropped-within xs))))
 
   left-in : (n k : ℕ) → n + k ≡ length xs → take k (drop n array) ≡ drop n xs
   left-in n k sum =
@@ -109,7 +110,9 @@ payload-new DamagedPayload n r k new array h = rw h
 payload-new (Message t q len) n r k new array h =
     let m = message-at (take k new) h in
     let size : length (take k new) ≤ k = rw (length-take k new) (omega arith) in
-    rw h (sym (part (n + headerLength) len k new (omega (arith, length-drop (dropped (take k new)) (take k new), dropped-within (take k new)))))
+    rw h (sym
+    (part (n + headerLength) len k new
+    (omega (arith, length-drop (dropped (take k new)) (take k new), dropped-within (take k new)))))
 
 -- an item of new bytes alone: what follows it stands at the front
 module _ (i : Item) (n r k : ℕ) (new : List ℕ) (h : scan new ≡ decided (itemOf i) n r) (last : k ≡ taken [] new) where

@@ -50,7 +50,8 @@ module _ (held new : List ℕ) where
 fewer-by : (held new : List ℕ) → Got held new → (k : ℕ) → k < receive held new .taken → decides (scan (held ++ take k new)) ≡ false
 fewer-by held new (got-more h got-it) k few =
     let less : k < length new = rw got-it at few in
-    decides-less (held ++ take k new) (drop k new) (rw (append-assoc held (take k new) (drop k new), take-append-drop k new) (ap decides h))
+    decides-less (held ++ take k new) (drop k new)
+    (rw (append-assoc held (take k new) (drop k new), take-append-drop k new) (ap decides h))
 fewer-by held new (got-item t within h none got-it) k few = none k (rw got-it at few)
 
 pub fewer-decide-nothing : (held new : List ℕ) (k : ℕ) → k < receive held new .taken → decides (scan (held ++ take k new)) ≡ false

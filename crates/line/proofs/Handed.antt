@@ -17,7 +17,8 @@ abbrev pub size : List ℕ → List ℕ → ℕ
 size held piece = length held + length piece
 
 -- fewer are left after an item
-pub item-shrinks : (held piece : List ℕ) {i : Item} {d r : ℕ} (k : ℕ) → k ≤ length piece → scan (held ++ take k piece) ≡ decided i d r
+pub item-shrinks : (held piece : List ℕ) {i : Item} {d r : ℕ} (k : ℕ) → k ≤ length piece → scan (held ++ take k piece)
+    ≡ decided i d r
     → size (drop (d + r) (held ++ take k piece)) (drop k piece) < size held piece
 item-shrinks held piece {i} {d} {r} k within h =
     let w = scan-within (held ++ take k piece) h in
@@ -34,7 +35,8 @@ module _ (n m : ℕ) (again : (held piece : List ℕ) → size held piece < n �
   same-by held piece (got-more h got-it) l k = rw (got-it, h)
   same-by held piece (got-item {i} {d} {r} t within h none got-it) l k =
       let few = item-shrinks held piece t within h in
-      rw (got-it, h) (ap (before (found i _ ∷ [])) (again (drop (d + r) (held ++ take t piece)) (drop t piece) (omega arith) (omega arith)))
+      rw (got-it, h)
+      (ap (before (found i _ ∷ [])) (again (drop (d + r) (held ++ take t piece)) (drop t piece) (omega arith) (omega arith)))
 
 same : (n m : ℕ) (held piece : List ℕ) → size held piece < n → size held piece < m → handedIn n held piece ≡ handedIn m held piece
 same zero m held piece l k = absurd (omega arith)
@@ -65,7 +67,8 @@ module _ (a b : List ℕ) where
   behind-more : (held : List ℕ) {e : ℕ} → scan (held ++ a) ≡ undecided e → handed held (a ++ b) ≡ handed (drop e (held ++ a)) b
   behind-more held {e} h =
       handed-step held (a ++ b)
-      ∙ rw (more-then held a b h, drop-append-add a b (receive (drop e (held ++ a)) b .taken)) (sym (handed-step (drop e (held ++ a)) b))
+      ∙ rw (more-then held a b h, drop-append-add a b (receive (drop e (held ++ a)) b .taken))
+      (sym (handed-step (drop e (held ++ a)) b))
 
   module _ (n : ℕ) (again : (held a : List ℕ) → size held a < n
       → handed held (a ++ b) ≡ before (handed held a .items) (handed (handed held a .held) b)) where
@@ -88,7 +91,8 @@ pub handed-joined : (held a b : List ℕ) → handed held (a ++ b) ≡ before (h
 handed-joined held a b = joined-within b (suc (size held a)) held a (omega arith)
 
 -- pieces, at least one
-pub each-joined : (held piece : List ℕ) (pieces : List (List ℕ)) → handedEach held (piece ∷ pieces) ≡ handed held (joined (piece ∷ pieces))
+pub each-joined : (held piece : List ℕ) (pieces : List (List ℕ)) → handedEach held (piece ∷ pieces)
+    ≡ handed held (joined (piece ∷ pieces))
 unfolding handedEach joined
 each-joined held piece [] = rw (append-nil piece, append-nil (handed held piece .items))
 each-joined held piece (next ∷ pieces) =

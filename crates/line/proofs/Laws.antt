@@ -41,7 +41,9 @@ pub handed-more : (held piece : List ℕ) → receive held piece .answer ≡ mor
 handed-more held piece h = rw (hand.handed-step held piece, h)
 
 pub handed-item : (held piece : List ℕ) {i : _} → receive held piece .answer ≡ item i
-    → handed held piece ≡ before (found i (receive held piece .payload) ∷ []) (handed (receive held piece .held) (drop (receive held piece .taken) piece))
+    → handed held piece
+    ≡ before (found i (receive held piece .payload) ∷ [])
+    (handed (receive held piece .held) (drop (receive held piece .taken) piece))
 handed-item held piece h = rw (hand.handed-step held piece, h)
 
 -- demand 2's cuts: any pieces, one after the other, give the same items in the same order and the same held bytes as the pieces joined
@@ -49,7 +51,8 @@ pub cuts : (pieces : List (List ℕ)) → handedEach [] pieces ≡ handed [] (jo
 cuts = hand.cuts
 
 -- and so from any held bytes on, where there is a piece at all
-pub cuts-from : (held piece : List ℕ) (pieces : List (List ℕ)) → handedEach held (piece ∷ pieces) ≡ handed held (joined (piece ∷ pieces))
+pub cuts-from : (held piece : List ℕ) (pieces : List (List ℕ)) → handedEach held (piece ∷ pieces)
+    ≡ handed held (joined (piece ∷ pieces))
 cuts-from = hand.each-joined
 
 -- "At most 265 bytes are held.": after every call, and in the end
@@ -61,7 +64,8 @@ handed-bounded = bounds.handed-bounded
 
 -- every byte that a call has taken is dropped, removed or held, and so is every byte that was handed in
 pub receive-accounts : (held new : List ℕ)
-    → held ++ take (receive held new .taken) new ≡ take (goneIn held new) (held ++ take (receive held new .taken) new) ++ receive held new .held
+    → held ++ take (receive held new .taken) new
+    ≡ take (goneIn held new) (held ++ take (receive held new .taken) new) ++ receive held new .held
 receive-accounts = bounds.receive-accounts
 
 pub handed-accounts : (held piece : List ℕ) → Accounted held piece

@@ -39,8 +39,16 @@ module _ (from i : ℕ) (l : List ℕ) (within : from + i ≤ length l) where
       let a = getD l (from + i) 0 in
       let next : take (suc i) (drop from l) ≡ take i (drop from l) ++ (a ∷ []) =
       take-suc (drop from l) i 0 (rw (length-drop from l) (omega arith)) ∙ rw (getD-drop from l i 0) in
-      let size : length (take i (drop from l) ++ (a ∷ [])) ≡ suc i = rw (length-append (take i (drop from l)) (a ∷ []), count) (omega arith) in
-      rw (moved-at 0, halves, drop-cons l i 0 (omega arith), set-at (take i (drop from l)) (getD l i 0) (drop (suc i) l) a i count, next)
+      let size : length (take i (drop from l) ++ (a ∷ [])) ≡ suc i =
+      rw (length-append (take i (drop from l)) (a ∷ []), count) (omega arith) in
+      rw (
+        moved-at 0,
+        halves,
+        drop-cons l i 0 (omega arith),
+        set-at (take i (drop from l)) (getD l i 0)
+            (drop (suc i) l) a i count,
+        next,
+      )
       (sym (append-snoc (take i (drop from l)) a (drop (suc i) l)) ∙ (rw size at (front (take i (drop from l) ++ (a ∷ [])) l)))
 
 -- a part of a first part

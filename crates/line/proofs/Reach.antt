@@ -57,7 +57,8 @@ reach-by n xs {i} {d} {r} s (by-6 long sound fine whole good e) h =
 pub reached : (xs : List ℕ) {i : Item} {d r : ℕ} → scan xs ≡ decided i d r → Reached i r (drop d xs)
 unfolding scan
 reached xs h =
-    rw (found-at xs h .place) (reach-by (dropped xs) (drop (dropped xs) xs) (scan xs) (applied (dropped xs) (drop (dropped xs) xs)) h)
+    rw (found-at xs h .place)
+    (reach-by (dropped xs) (drop (dropped xs) xs) (scan xs) (applied (dropped xs) (drop (dropped xs) xs)) h)
 
 -- the bytes hold it
 pub reach-within : (xs : List ℕ) {i : Item} {d r : ℕ} → scan xs ≡ decided i d r
@@ -106,7 +107,8 @@ dropped-first : (b : Bool) (ps ws : List ℕ) → leb 2 (length (drop (dropped p
     → dropped ps ≡ dropped (ps ++ ws)
 dropped-first true ps ws h two = sym (dropped-more ps ws (leb-true 2 (length (drop (dropped ps) ps)) h))
 dropped-first false ps ws h two =
-    absurd (omega (arith, leb-false 2 (length (drop (dropped ps) ps)) h, dropped-joined ps ws, length-drop (dropped ps) ps, dropped-within ps))
+    absurd (omega
+    (arith, leb-false 2 (length (drop (dropped ps) ps)) h, dropped-joined ps ws, length-drop (dropped ps) ps, dropped-within ps))
 
 pub dropped-less : (ps ws : List ℕ) → dropped (ps ++ ws) + 2 ≤ length ps → dropped ps ≡ dropped (ps ++ ws)
 dropped-less ps ws two = dropped-first (leb 2 (length (drop (dropped ps) ps))) ps ws refl two

@@ -36,13 +36,22 @@ pub record Smallest (test : ℕ → Bool) (k n : ℕ) : Type 0 where
   pub none : (j : ℕ) → j < past → test (k + j) ≡ false
   pub here : past < n → test (k + past) ≡ true
 
-first-none : (test : ℕ → Bool) (k m : ℕ) → test k ≡ false → ((j : ℕ) → j < m → test (suc k + j) ≡ false) → (j : ℕ) → j < suc m → test (k + j) ≡ false
+first-none : (test : ℕ → Bool) (k m : ℕ) → test k ≡ false → ((j : ℕ) → j < m → test (suc k + j) ≡ false) → (j : ℕ) → j < suc m
+    → test (k + j) ≡ false
 first-none test k m first rest zero h = rw add-zero first
 first-none test k m first rest (suc j) h = rw (next k j) (rest j (omega arith))
 
 later : (test : ℕ → Bool) (k n : ℕ) (b : Bool) → test k ≡ b → Smallest test (suc k) n → Smallest test k (suc n)
 unfolding smallest
-later test k n true h s = record { past = 0; at = rw h (omega arith); within = omega arith; none = λ j l. absurd (omega arith); here = λ l. rw add-zero h }
+later test k n true h s =
+    record {
+      past = 0;
+      at = rw h (omega arith);
+      within = omega arith;
+      none = λ j l. absurd (omega arith);
+      here =
+          λ l. rw add-zero h;
+    }
 later test k n false h s = record {
   past = suc (s .past);
   at = rw (h, s .at) (omega arith);
@@ -53,5 +62,13 @@ later test k n false h s = record {
 
 pub told : (test : ℕ → Bool) (k n : ℕ) → Smallest test k n
 unfolding smallest
-told test k zero = record { past = 0; at = omega arith; within = omega arith; none = λ j l. absurd (omega arith); here = λ l. absurd (omega arith) }
+told test k zero =
+    record {
+      past = 0;
+      at = omega arith;
+      within = omega arith;
+      none = λ j l. absurd (omega arith);
+      here = λ l. absurd
+          (omega arith);
+    }
 told test k (suc n) = later test k n (test k) refl (told test (suc k) n)

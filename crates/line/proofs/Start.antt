@@ -54,7 +54,8 @@ unbroken : (kept n : ℕ) (b : Bool) → (eqb kept 1 && (ltb 0 n && not b)) ≡ 
 unbroken kept n true wrong one some = refl
 unbroken kept n false wrong one some = absurd (true≢false (sym (rw (eq-eqb kept 1 one, lt-ltb 0 n some)) ∙ wrong))
 
-keeps-at : (held ys : List ℕ) → stands held ≡ true → (length held ≡ 1 → 0 < length ys → getD ys 0 0 ≡ syn2) → dropped (held ++ ys) ≡ 0
+keeps-at : (held ys : List ℕ) → stands held ≡ true → (length held ≡ 1 → 0 < length ys → getD ys 0 0 ≡ syn2) → dropped (held ++ ys)
+    ≡ 0
 unfolding stands
 keeps-at [] ys here next = absurd (true≢false (sym here))
 keeps-at (x ∷ []) [] here next = dropped-here (x ∷ []) here

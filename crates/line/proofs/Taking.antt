@@ -32,7 +32,8 @@ taken-dropped held new = smallest-same _ _ 0 (length new) (λ k. decides-joined 
 pub receive-dropped : (held new : List ℕ) → receive held new ≡ receive (drop (dropped held) held) new
 unfolding receive
 receive-dropped held new =
-    rw (taken-dropped held new) (received-joined held (take (taken (drop (dropped held) held) new) new) (taken (drop (dropped held) held) new))
+    rw (taken-dropped held new)
+    (received-joined held (take (taken (drop (dropped held) held) new) new) (taken (drop (dropped held) held) new))
 
 -- a call takes k bytes where fewer decide nothing, and those do or are all
 module _ (held new : List ℕ) (k : ℕ) (within : k ≤ length new) (here : k < length new → decides (scan (held ++ take k new)) ≡ true)
@@ -56,7 +57,8 @@ parts held new j k le =
     ∙ ap (λ (l : List ℕ). held ++ l) (sym (take-add j (k - j) new) ∙ rw sum)
 
 -- *more*: all bytes decide nothing
-pub at-more : (held new : List ℕ) → decides (scan (held ++ new)) ≡ false → receive held new ≡ receivedFrom (held ++ new) (length new)
+pub at-more : (held new : List ℕ) → decides (scan (held ++ new)) ≡ false → receive held new
+    ≡ receivedFrom (held ++ new) (length new)
 at-more held new none =
     rw (take-length new) at
     (receive-at held new (length new) (omega arith) (λ h. absurd (omega arith))
@@ -74,7 +76,8 @@ pub at-item : (held new : List ℕ) (k : ℕ) {i : Item} {d r : ℕ} → k ≤ l
     → length held + k ≡ d + reach i (drop d (held ++ take k new)) → receive held new ≡ receivedFrom (held ++ take k new) k
 at-item held new k {i} {d} {r} within h last =
     receive-at held new k within (λ more. ap decides h)
-    (λ j few. scan-fewer (held ++ take j new) (take (k - j) (drop j new)) {i = i} {d = d} {r = r} (rw (parts held new j k (omega arith)) h)
+    (λ j few. scan-fewer (held ++ take j new) (take (k - j) (drop j new)) {i = i} {d = d} {r = r}
+    (rw (parts held new j k (omega arith)) h)
     (rw (parts held new j k (omega arith), length-append held (take j new), length-take-le j new (omega arith)) (omega arith)))
 
 -- an item of new bytes alone: those that decide it
@@ -84,7 +87,8 @@ at-new new k {i} {d} {r} h last =
     let w = reach-within new h in
     let cut : take k new ++ drop k new ≡ new = take-append-drop k new in
     let size : length (take k new) ≡ k = length-take-le k new (omega arith) in
-    let there : scan (take k new) ≡ decided i d r = scan-less (take k new) (drop k new) (rw cut h) (rw (cut, size) (omega arith)) in (
+    let there : scan (take k new) ≡ decided i d r =
+    scan-less (take k new) (drop k new) (rw cut h) (rw (cut, size) (omega arith)) in (
       receive-at [] new k (omega arith) (λ more. ap decides there)
           (λ j few. scan-fewer (take j new) (drop j new) {i = i} {d = d} {r = r} (rw (take-append-drop j new) h)
           (rw (take-append-drop j new, length-take-le j new (omega arith)) (omega arith))),
@@ -123,5 +127,6 @@ module _ (x y : ℕ) (ys : List ℕ) (no : stands (x ∷ y ∷ []) ≡ false) wh
   pub receive-lone : receive (x ∷ []) (y ∷ ys) ≡ receive [] (y ∷ ys)
   unfolding receive taken
   receive-lone =
-      rw (smallest-same (λ k. decides (scan (x ∷ take k (y ∷ ys)))) (λ k. decides (scan (take k (y ∷ ys)))) 0 (length (y ∷ ys)) decides-lone)
+      rw (smallest-same (λ k. decides (scan (x ∷ take k (y ∷ ys)))) (λ k. decides (scan (take k (y ∷ ys)))) 0
+      (length (y ∷ ys)) decides-lone)
       (received-lone (taken [] (y ∷ ys)) some)

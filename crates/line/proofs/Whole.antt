@@ -35,7 +35,8 @@ pub record Standing (first before : ℕ) (array new : List ℕ) : Type 0 where
   pub joined : take (first + before) array ≡ take first array ++ take before new
   pub none : scan (take (first + before) array) ≡ undecided 0
 
-pub standing : {first before : ℕ} {array new : List ℕ} → length array ≡ heldMax → before ≤ length new → headerLength ≤ first + before
+pub standing : {first before : ℕ} {array new : List ℕ} → length array ≡ heldMax → before ≤ length new
+    → headerLength ≤ first + before
     → first + before ≤ heldMax → take (first + before) array ≡ take first array ++ take before new
     → scan (take (first + before) array) ≡ undecided 0 → Standing first before array new
 standing size within long fits joined none =
@@ -123,7 +124,8 @@ module _ (first before : ℕ) (array new : List ℕ) (s : Standing first before 
         ≡ eqb (payloadChecksumIn ms) (checksumOf (payloadIn ms))
     compared n len =
         rw (tail 6 exit, exit-is)
-        (checksum-behind ms (drop (length (drop 2 ms)) array) n (size-ms ∙ ap total (sym (len ∙ len-array))) (len ∙ len-array ∙ sym len-ms))
+        (checksum-behind ms (drop (length (drop 2 ms)) array) n (size-ms ∙ ap total (sym (len ∙ len-array))) (len ∙ len-array
+        ∙ sym len-ms))
 
     size-first : length (take first array) ≡ first
     size-first = length-take-le first array (omega (arith, s .size, s .fits))
@@ -142,7 +144,8 @@ module _ (first before : ℕ) (array new : List ℕ) (s : Standing first before 
     unfolding payloadOf
     gives-message d t n q good read said =
         let h = whole-message there (take m rest) waits long-there size-ms good in
-        let none : drop (0 + total (lenIn there)) ms ≡ [] = drop-of-length-le ms {i = 0 + total (lenIn there)} (omega (arith, size-ms)) in
+        let none : drop (0 + total (lenIn there)) ms ≡ [] =
+        drop-of-length-le ms {i = 0 + total (lenIn there)} (omega (arith, size-ms)) in
         let part : take (lenIn there) (drop 6 exit) ≡ take (lenIn there) (drop headerLength ms) =
         rw exit-is (payload-behind ms (drop (length (drop 2 ms)) array) (lenIn there) size-ms) in
         record {

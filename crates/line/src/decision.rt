@@ -80,7 +80,8 @@ fn in_array(item: Item, dropped: usize, removed: usize, count: usize, taken: usi
 
 // No item of the held bytes: those that are dropped go.
 fn without_dropped(array: &mut [u8], dropped: usize, count: usize, new: &[u8]) -> Decision
-    requires { ⌜ (length (now array) ≡ heldMax) × (count ≤ heldMax) × (scan (take count (now array)) ≡ undecided dropped) ⌝ }
+    requires { ⌜ (length (now array) ≡ heldMax) × (count ≤ heldMax)
+        × (scan (take count (now array)) ≡ undecided dropped) ⌝ }
     ensures { λ r. ⌜ Decides r (take count (now (array .entry))) (now (new .entry)) (now (array .exit)) ⌝ }
 {
     let kept = count - dropped;
@@ -96,7 +97,8 @@ fn without_dropped(array: &mut [u8], dropped: usize, count: usize, new: &[u8]) -
 
 // The start of a header is held, its SYN in front or the first byte of one.
 fn after_start(array: &mut [u8], kept: usize, new: &[u8]) -> Decision
-    requires { ⌜ (length (now array) ≡ heldMax) × (0 < kept) × (kept < headerLength) × (scan (take kept (now array)) ≡ undecided 0) ⌝ }
+    requires { ⌜ (length (now array) ≡ heldMax) × (0 < kept) × (kept < headerLength)
+        × (scan (take kept (now array)) ≡ undecided 0) ⌝ }
     ensures { λ r. ⌜ Decides r (take kept (now (array .entry))) (now (new .entry)) (now (array .exit)) ⌝ }
 {
     if breaks_syn(kept, new) {
@@ -148,7 +150,8 @@ fn all_held(count: usize, taken: usize) -> Decision
 
 // A whole header is held that is sound and allowed: `first` bytes from before and `before` new ones.
 fn after_header(array: &mut [u8], first: usize, before: usize, new: &[u8]) -> Decision
-    requires { ⌜ (length (now array) ≡ heldMax) × (before ≤ length (now new)) × (headerLength ≤ first + before) × (first + before ≤ heldMax)
+    requires { ⌜ (length (now array) ≡ heldMax) × (before ≤ length (now new))
+        × (headerLength ≤ first + before) × (first + before ≤ heldMax)
         × (take (first + before) (now array) ≡ take first (now array) ++ take before (now new))
         × (scan (take (first + before) (now array)) ≡ undecided 0) ⌝ }
     ensures { λ r. ⌜ Decides r (take first (now (array .entry))) (now (new .entry)) (now (array .exit)) ⌝ }
@@ -165,7 +168,8 @@ fn after_header(array: &mut [u8], first: usize, before: usize, new: &[u8]) -> De
 
 // The message is whole with `need` new bytes more. SYN goes with every item, so they are put behind the rest without it.
 fn whole_message(array: &mut [u8], first: usize, before: usize, need: usize, new: &[u8]) -> Decision
-    requires { ⌜ (length (now array) ≡ heldMax) × (before ≤ length (now new)) × (headerLength ≤ first + before) × (first + before ≤ heldMax)
+    requires { ⌜ (length (now array) ≡ heldMax) × (before ≤ length (now new))
+        × (headerLength ≤ first + before) × (first + before ≤ heldMax)
         × (take (first + before) (now array) ≡ take first (now array) ++ take before (now new))
         × (scan (take (first + before) (now array)) ≡ undecided 0)
         × (first + before + need ≡ total (lenIn (now array))) × (before + need ≤ length (now new)) ⌝ }
@@ -199,8 +203,10 @@ fn whole_message(array: &mut [u8], first: usize, before: usize, need: usize, new
 
 // Moves the first end bytes but SYN to the front, and puts bytes behind them. The longest message fits without its SYN.
 fn append_behind_syn(array: &mut [u8], end: usize, bytes: &[u8])
-    requires { ⌜ (length syn ≤ end) × (end ≤ length (now array)) × (end + length (now bytes) ≤ length (now array) + length syn) ⌝ }
-    ensures { λ _. ⌜ now (array .exit) ≡ placed 0 (drop (length syn) (take end (now (array .entry))) ++ now (bytes .entry)) (now (array .entry)) ⌝ }
+    requires { ⌜ (length syn ≤ end) × (end ≤ length (now array))
+        × (end + length (now bytes) ≤ length (now array) + length syn) ⌝ }
+    ensures { λ _. ⌜ now (array .exit)
+        ≡ placed 0 (drop (length syn) (take end (now (array .entry))) ++ now (bytes .entry)) (now (array .entry)) ⌝ }
 {
     let kept = end - SYN_LENGTH;
     move_to_front(array, SYN_LENGTH, kept);

@@ -47,7 +47,8 @@ pub fn receive_in(array: &mut [u8], count: usize, new: &[u8]) -> Received
 // crates above, with what `decide` answered for this array.
 pub fn settle(array: &mut [u8], decision: Decision) -> usize
     requires { ⌜ decision .start + decision .count ≤ length (now array) ⌝ }
-    ensures { λ r. ⌜ (r ≡ decision .count) × (take r (now (array .exit)) ≡ take (decision .count) (drop (decision .start) (now (array .entry)))) ⌝ }
+    ensures { λ r. ⌜ (r ≡ decision .count)
+        × (take r (now (array .exit)) ≡ take (decision .count) (drop (decision .start) (now (array .entry)))) ⌝ }
 {
     let start = decision.start;
     let count = decision.count;

@@ -23,12 +23,14 @@ module _ (n : ℕ) (first : List ℕ) where
   unfolding decimal
   one-digit small h = rw (lt-ltb n 10 small) h
 
-  pub two-digits : {x y : List ℕ} → 10 ≤ n → n < 100 → x ≡ first ++ (digit (n / 10) ∷ []) → y ≡ x ++ (digit (n % 10) ∷ []) → y ≡ first ++ decimal n
+  pub two-digits : {x y : List ℕ} → 10 ≤ n → n < 100 → x ≡ first ++ (digit (n / 10) ∷ []) → y ≡ x ++ (digit (n % 10) ∷ []) → y
+      ≡ first ++ decimal n
   unfolding decimal
   two-digits large small h k =
       rw (le-ltb n 10 large, lt-ltb n 100 small) (behind first (digit (n / 10) ∷ []) (digit (n % 10) ∷ []) h k)
 
-  pub three-digits : {x y z : List ℕ} → 100 ≤ n → x ≡ first ++ (digit (n / 100) ∷ []) → y ≡ x ++ (digit (n / 10 % 10) ∷ []) → z ≡ y ++ (digit (n % 10) ∷ [])
+  pub three-digits : {x y z : List ℕ} → 100 ≤ n → x ≡ first ++ (digit (n / 100) ∷ []) → y ≡ x ++ (digit (n / 10 % 10) ∷ []) → z
+      ≡ y ++ (digit (n % 10) ∷ [])
       → z ≡ first ++ decimal n
   unfolding decimal
   three-digits large h k l =

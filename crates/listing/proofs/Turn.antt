@@ -28,7 +28,8 @@ short-by held new Forbidden h = omega arith
 short-by held new DamagedPayload h = omega arith
 short-by held new (Message t q len) h = omega (arith, message-short held new h)
 
-pub short : (r : Received) (held new exit : List ℕ) → Receives r held new exit → (i : Item) → r .answer ≡ One i → lenOf (itemOf i) < 1000
+pub short : (r : Received) (held new exit : List ℕ) → Receives r held new exit → (i : Item) → r .answer ≡ One i
+    → lenOf (itemOf i) < 1000
 short r held new exit p i told = short-by held new i (said r held new exit p i told)
 
 -- the held bytes are at most as many as were counted

@@ -16,7 +16,8 @@ pub(crate) const LINE_MAX: usize = 16;
 // The line of an item, behind the first `at` bytes. Answers where it ends.
 pub(crate) fn put_line(out: &mut [u8], at: usize, item: Item) -> usize
     requires { ⌜ (at + 16 ≤ length (now out)) × (lenOf (itemOf item) < 1000) ⌝ }
-    ensures { λ r. ⌜ (r ≤ length (now (out .exit))) × (take r (now (out .exit)) ≡ take at (now (out .entry)) ++ lineOf (itemOf item)) ⌝ }
+    ensures { λ r. ⌜ (r ≤ length (now (out .exit)))
+        × (take r (now (out .exit)) ≡ take at (now (out .entry)) ++ lineOf (itemOf item)) ⌝ }
 {
     match item {
         Item::DamagedHeader => put(out, at, b"BADHEAD\n"),
@@ -90,7 +91,8 @@ fn put_digit(out: &mut [u8], at: usize, digit: usize) -> usize
 
 fn put(out: &mut [u8], at: usize, bytes: &[u8]) -> usize
     requires { ⌜ at + length (now bytes) ≤ length (now out) ⌝ }
-    ensures { λ r. ⌜ (r ≡ at + length (now (bytes .entry))) × (take r (now (out .exit)) ≡ take at (now (out .entry)) ++ now (bytes .entry)) ⌝ }
+    ensures { λ r. ⌜ (r ≡ at + length (now (bytes .entry)))
+        × (take r (now (out .exit)) ≡ take at (now (out .entry)) ++ now (bytes .entry)) ⌝ }
 {
     bytes::copy(bytes, &mut out[at..]);
     at + bytes.len()

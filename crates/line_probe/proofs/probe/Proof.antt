@@ -17,12 +17,14 @@ use Rattle.line_probe.proofs.probe.Statement.{statement}
 use Rattle.line_probe.proofs.probe.Tie as tie
 
 -- the number 1, and the array as it was
-left : (n : Numbers) (count : ℕ) (new entry : List ℕ) → usable entry count ≡ false → n ≡ numbers 1 0 0 0 0 0 → Probed n count new entry entry
+left : (n : Numbers) (count : ℕ) (new entry : List ℕ) → usable entry count ≡ false → n ≡ numbers 1 0 0 0 0 0
+    → Probed n count new entry entry
 left n count new entry no-line h = record { answers = rw no-line h; leaves = rw no-line }
 
 -- a call's
 called : (n : Numbers) (r : Received) (count : ℕ) (new entry exit : List ℕ) → usable entry count ≡ true
-    → n ≡ numbersOf (answerOf (r .answer)) (r .taken) (r .count) → Receives r (take count entry) new exit → Probed n count new entry exit
+    → n ≡ numbersOf (answerOf (r .answer)) (r .taken) (r .count) → Receives r (take count entry) new exit
+    → Probed n count new entry exit
 called n r count new entry exit line h p = record {
   answers = rw (line, h, p .answers, p .takes, p .counts);
   leaves = rw (line, ← p .counts) (p .holds);
@@ -34,7 +36,8 @@ refused-requires c κs = search needs
 returns : tie.Need-returns
 returns c =
     let a = c .before .before .before .before .args in
-    left _ (a .count) (now (a .new)) (now (a .array)) (rw (ne-eqb (length (now (a .array))) heldMax (omega arith))) (c .refused .ensures)
+    left _ (a .count) (now (a .new)) (now (a .array)) (rw (ne-eqb (length (now (a .array))) heldMax (omega arith)))
+    (c .refused .ensures)
 
 refused-requires-2 : tie.Need-refused-requires-2
 refused-requires-2 c κs = search needs
@@ -42,7 +45,8 @@ refused-requires-2 c κs = search needs
 returns-2 : tie.Need-returns-2
 returns-2 c =
     let a = c .before .before .before .before .before .args in
-    left _ (a .count) (now (a .new)) (now (a .array)) (rw (lt-leb (a .count) heldMax (omega arith), and-false (eqb (length (now (a .array))) heldMax)))
+    left _ (a .count) (now (a .new)) (now (a .array))
+    (rw (lt-leb (a .count) heldMax (omega arith), and-false (eqb (length (now (a .array))) heldMax)))
     (c .refused2 .ensures)
 
 receive-in-requires : tie.Need-receive-in-requires

@@ -40,16 +40,22 @@ add-line-requires c κs =
     (c .before .before .before .before .before .before .loop .inv .1, c .before .before .before .before .before .before .loop .inv .2, short (r .result) _ _ _ (r .ensures) _ (c .before .before .answer .given .1))
 
 same-length-2 : tie.Need-same-length-2 Inv-loop μ-loop
-same-length-2 c = omega (arith, c .before .before .before .before .before .before .before .before .before .before .before .loop .inv .3)
+same-length-2 c =
+    omega (arith, c .before .before .before .before .before .before .before .before .before .before .before .loop .inv .3)
 
 returns-2 : tie.Need-returns-2 Inv-loop μ-loop
-returns-2 c = (c .before .before .before .before .before .before .before .before .before .receive .ensures .within, c .before .before .before .before .add-line .ensures)
+returns-2 c =
+    (c .before .before .before .before .before .before .before .before .before .receive .ensures .within, c .before .before .before .before .add-line .ensures)
 
 sub-rest : tie.Need-sub-rest Inv-loop μ-loop
-sub-rest c = let r = c .before .before .before .before .before .before .before .before .before .receive in removes (r .result) _ _ _ (r .ensures) _ (c .before .before .before .before .before .before .before .answer .given .1) .0
+sub-rest c = let r =
+    c .before .before .before .before .before .before .before .before .before .receive in
+    removes (r .result) _ _ _ (r .ensures) _ (c .before .before .before .before .before .before .before .answer .given .1) .0
 
 part-rest-start : tie.Need-part-rest-start Inv-loop μ-loop
-part-rest-start c = let r = c .before .before .before .before .before .before .before .before .before .receive in removes (r .result) _ _ _ (r .ensures) _ (c .before .before .before .before .before .before .before .answer .given .1) .0
+part-rest-start c = let r =
+    c .before .before .before .before .before .before .before .before .before .receive in
+    removes (r .result) _ _ _ (r .ensures) _ (c .before .before .before .before .before .before .before .answer .given .1) .0
 
 part-rest-end : tie.Need-part-rest-end Inv-loop μ-loop
 part-rest-end c = search needs
@@ -57,11 +63,21 @@ part-rest-end c = search needs
 loop-less : tie.Need-loop-less Inv-loop μ-loop
 loop-less c =
     let r = c .before .before .before .before .before .before .before .before .before .before .receive in
-    let w = removes (r .result) _ _ _ (r .ensures) _ (c .before .before .before .before .before .before .before .before .answer .given .1) in
-    simp (length-take, length-drop) (omega (arith, w, counted (c .before .before .before .before .before .before .before .before .before .before .before .before .loop .count) (c .before .before .before .before .before .before .before .before .before .before .before .before .loop .held)))
+    let w = removes (r .result) _ _ _ (r .ensures) _
+    (c .before .before .before .before .before .before .before .before .answer .given .1) in
+    simp (length-take, length-drop)
+    (omega (
+      arith,
+      w,
+      counted
+          (c .before .before .before .before .before .before .before .before .before .before .before .before .loop .count)
+          (c .before .before .before .before .before .before .before .before .before .before .before .before .loop .held),
+    ))
 
 loop-again : tie.Need-loop-again Inv-loop μ-loop
-loop-again c = let l = c .before .before .before .before .before .before .before .before .before .before .before .before .loop .inv in (c .before .before .before .before .before .before .before .before .before .before .receive .ensures .within, c .before .before .before .before .before .add-line .ensures, omega (arith, l .2, l .3), omega (arith, l .3))
+loop-again c = let l =
+    c .before .before .before .before .before .before .before .before .before .before .before .before .loop .inv in
+    (c .before .before .before .before .before .before .before .before .before .before .receive .ensures .within, c .before .before .before .before .before .add-line .ensures, omega (arith, l .2, l .3), omega (arith, l .3))
 
 pub list-piece-spec : {M : Type 1} → statement M
 list-piece-spec =

@@ -19,8 +19,9 @@ total-length-requires c κs = search needs
 
 sub-need : tie.Need-sub-need
 sub-need c =
-    let p = c .before .before .before .before .before .pre in
-    let a = c .before .before .before .before .before .args in
+    let start = c .before .before .before .before .before in
+    let p = start .pre in
+    let a = start .args in
     let w = waits-for (a .first) (a .before) (now (a .array)) (now (a .new)) (standing (p .0) (p .1) (p .2) (p .3) (p .4) (p .5)) in
     omega (arith, w, c .total-length .ensures, c .before .len-in .ensures)
 
@@ -35,8 +36,9 @@ part-rest-end c = search needs
 
 put-at-requires : tie.Need-put-at-requires
 put-at-requires c κs =
-    let p = c .before .before .before .before .before .before .before .before .pre in
-    let a = c .before .before .before .before .before .before .before .before .args in
+    let start = c .before .before .before .before .before .before .before .before in
+    let p = start .pre in
+    let a = start .args in
     let w = waits-for (a .first) (a .before) (now (a .array)) (now (a .new)) (standing (p .0) (p .1) (p .2) (p .3) (p .4) (p .5)) in
     omega (arith, w, c .before .before .before .total-length .ensures, c .before .before .before .before .len-in .ensures)
 
@@ -51,19 +53,28 @@ same-length c = search needs
 
 returns : tie.Need-returns
 returns c =
-    let p = c .before .before .before .before .before .before .before .before .before .before .before .before .pre in
-    let a = c .before .before .before .before .before .before .before .before .before .before .before .before .args in
+    let start = c .before .before .before .before .before .before .before .before .before .before .before .before in
+    let p = start .pre in
+    let a = start .args in
     let s = standing (p .0) (p .1) (p .2) (p .3) (p .4) (p .5) in
     let w = waits-for (a .first) (a .before) (now (a .array)) (now (a .new)) s in
     let rest = tail (a .before) (now (a .new)) in
     gives-waiting (a .first) (a .before) (now (a .array)) (now (a .new)) s _ _
-    (omega (arith, w, rw rest at (c .before .before .before .before .before .if1 .taken), c .before .before .before .before .before .before .before .total-length .ensures, c .before .before .before .before .before .before .before .before .len-in .ensures))
+    (omega (
+      arith,
+      w,
+      rw rest at
+          (c .before .before .before .before .before .if1 .taken),
+      c .before .before .before .before .before .before .before .total-length .ensures,
+      c .before .before .before .before .before .before .before .before .len-in .ensures,
+    ))
     (rw rest at (c .all-held .ensures)) (rw rest at (c .before .before .before .put-at .ensures))
 
 whole-message-requires : tie.Need-whole-message-requires
 whole-message-requires c κs =
-    let p = c .before .before .before .before .before .before .before .before .pre in
-    let a = c .before .before .before .before .before .before .before .before .args in
+    let start = c .before .before .before .before .before .before .before .before in
+    let p = start .pre in
+    let a = start .args in
     let w = waits-for (a .first) (a .before) (now (a .array)) (now (a .new)) (standing (p .0) (p .1) (p .2) (p .3) (p .4) (p .5)) in
     let count = c .before .before .before .total-length .ensures in
     let len = c .before .before .before .before .len-in .ensures in

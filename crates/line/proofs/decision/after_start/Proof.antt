@@ -22,10 +22,13 @@ same-length c = search needs
 
 returns : tie.Need-returns
 returns c =
-    let p = c .before .before .before .before .before .before .before .before .pre in
-    let a = c .before .before .before .before .before .before .before .before .args in
+    let start = c .before .before .before .before .before .before .before .before in
+    let p = start .pre in
+    let a = start .args in
     let size = count (a .kept) (now (a .array)) (now (a .new)) (p .0) (p .1) (p .2) (p .3) in
-    decides-same (broken (a .kept) (take (a .kept) (now (a .array))) (now (a .new)) size (sym (c .before .before .before .before .before .breaks-syn .ensures) ∙ c .before .before .before .before .if1 .taken))
+    decides-same
+    (broken (a .kept) (take (a .kept) (now (a .array))) (now (a .new)) size
+    (sym (c .before .before .before .before .before .breaks-syn .ensures) ∙ c .before .before .before .before .if1 .taken))
     (c .before .before .in-new .ensures)
 
 sub-missing : tie.Need-sub-missing
@@ -45,10 +48,13 @@ same-length-2 c = search needs
 
 returns-2 : tie.Need-returns-2
 returns-2 c =
-    let p = c .before .before .before .before .before .before .before .before .before .before .pre in
-    let a = c .before .before .before .before .before .before .before .before .before .before .args in
+    let start = c .before .before .before .before .before .before .before .before .before .before in
+    let p = start .pre in
+    let a = start .args in
     gives-start (a .kept) (now (a .array)) (now (a .new)) (p .0) (p .1) (p .2) (p .3) _ _
-    (sym (c .before .before .before .before .before .before .before .breaks-syn .ensures) ∙ c .before .before .before .before .before .before .if1 .left) (omega arith) (c .all-held .ensures) (c .before .before .before .put-at .ensures)
+    (sym (c .before .before .before .before .before .before .before .breaks-syn .ensures)
+    ∙ c .before .before .before .before .before .before .if1 .left) (omega arith) (c .all-held .ensures)
+    (c .before .before .before .put-at .ensures)
 
 slice-aggregate-put-at : tie.Need-slice-aggregate-put-at
 slice-aggregate-put-at c = sym (length-take-le _ _ (omega arith))
@@ -63,10 +69,15 @@ slice-reshare-prefix-read c = search needs
 
 slice-aggregate-read : tie.Need-slice-aggregate-read
 slice-aggregate-read c =
-    let p = c .before .before .before .before .before .before .before .before .before .before .before .pre in
-    let a = c .before .before .before .before .before .before .before .before .before .before .before .args in
+    let start = c .before .before .before .before .before .before .before .before .before .before .before in
+    let p = start .pre in
+    let a = start .args in
     sym (length-take-le 8 (c .before .before .before .put-at2 .last .0)
-    (omega (arith, size-exit (a .kept) (now (a .array)) (now (a .new)) (p .0) (p .1) (p .2) (p .3) (8 - a .kept) (omega arith) (omega arith) _ (c .before .before .before .put-at2 .ensures))))
+    (omega (
+      arith,
+      size-exit (a .kept) (now (a .array)) (now (a .new)) (p .0) (p .1) (p .2) (p .3) (8 - a .kept) (omega arith)
+          (omega arith) _ (c .before .before .before .put-at2 .ensures),
+    )))
 
 read-requires : tie.Need-read-requires
 read-requires c κs = search needs
@@ -85,12 +96,17 @@ enum-told c = search needs
 
 after-header-requires : tie.Need-after-header-requires
 after-header-requires c κs =
-    let p = c .before .before .before .before .before .before .before .before .before .before .before .before .before .before .before .pre in
-    let a = c .before .before .before .before .before .before .before .before .before .before .before .before .before .before .before .args in
-    let x = c .before .before .before .before .before .before .before .put-at2 .ensures in
-    let size = size-exit (a .kept) (now (a .array)) (now (a .new)) (p .0) (p .1) (p .2) (p .3) (8 - a .kept) (omega arith) (omega arith) _ x in
-    let w = header-waits (a .kept) (now (a .array)) (now (a .new)) (p .0) (p .1) (p .2) (p .3) (8 - a .kept) (omega arith) (omega arith) _ x
-    (sym (c .before .before .before .before .before .before .before .before .before .before .before .before .breaks-syn .ensures) ∙ c .before .before .before .before .before .before .before .before .before .before .before .if1 .left) _ (rw (c .before .enum-told .given .1) at (c .before .before .before .read .ensures)) in
+    let read = c .before .before .before in
+    let put = read .before .before .before .before in
+    let tested = put .before .before .before .before in
+    let start = tested .before .before .before .before in
+    let p = start .pre in
+    let a = start .args in
+    let x = put .put-at2 .ensures in
+    let missing = 8 - a .kept in
+    let size = size-exit (a .kept) (now (a .array)) (now (a .new)) (p .0) (p .1) (p .2) (p .3) missing (omega arith) (omega arith) _ x in
+    let w = header-waits (a .kept) (now (a .array)) (now (a .new)) (p .0) (p .1) (p .2) (p .3) missing (omega arith) (omega arith) _ x
+    (sym (tested .before .breaks-syn .ensures) ∙ tested .if1 .left) _ (rw (c .before .enum-told .given .1) at (read .read .ensures)) in
     (size, omega arith, omega arith, omega arith, w .0, w .1)
 
 same-length-3 : tie.Need-same-length-3
@@ -98,19 +114,23 @@ same-length-3 c = search needs
 
 returns-3 : tie.Need-returns-3
 returns-3 c =
-    let p = c .before .before .before .before .before .before .before .before .before .before .before .before .before .before .before .before .pre in
-    let a = c .before .before .before .before .before .before .before .before .before .before .before .before .before .before .before .before .args in
+    let start = c .before .before .before .before .before .before .before .before .before .before .before .before .before .before .before .before in
+    let p = start .pre in
+    let a = start .args in
     gives-header (a .kept) (now (a .array)) (now (a .new)) (p .0) (p .1) (p .2) (p .3) (8 - a .kept) (omega arith) (omega arith) _
-    (c .before .before .before .before .before .before .before .before .put-at2 .ensures) _ _ _ _ (rw (c .before .before .reading .given .1) at (c .before .before .before .before .read .ensures)) (c .in-array .ensures)
+    (c .before .before .before .before .before .before .before .before .put-at2 .ensures) _ _ _ _
+    (rw (c .before .before .reading .given .1) at (c .before .before .before .before .read .ensures)) (c .in-array .ensures)
 
 same-length-4 : tie.Need-same-length-4
 same-length-4 c = search needs
 
 returns-4 : tie.Need-returns-4
 returns-4 c =
-    let p = c .before .before .before .before .before .before .before .before .before .before .before .before .before .before .before .before .before .before .pre in
-    let a = c .before .before .before .before .before .before .before .before .before .before .before .before .before .before .before .before .before .before .args in
-    rw (before (a .kept) (now (a .array)) (now (a .new)) (p .0) (p .1) (p .2) (p .3) (8 - a .kept) (omega arith) (omega arith) _ (c .before .before .before .before .before .before .before .before .before .before .put-at2 .ensures)) at
+    let start = c .before .before .before .before .before .before .before .before .before .before .before .before .before .before .before .before .before .before in
+    let p = start .pre in
+    let a = start .args in
+    rw (before (a .kept) (now (a .array)) (now (a .new)) (p .0) (p .1) (p .2) (p .3) (8 - a .kept) (omega arith) (omega arith) _
+    (c .before .before .before .before .before .before .before .before .before .before .put-at2 .ensures)) at
     (c .before .before .after-header .ensures)
 
 pub after-start-spec : {M : Type 1} → statement M

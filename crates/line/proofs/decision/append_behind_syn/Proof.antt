@@ -16,7 +16,8 @@ use Rattle.line.proofs.decision.append_behind_syn.Tie as tie
 both : (end : ℕ) (m l x y : List ℕ) → 2 ≤ end → end ≤ length l → end + length m ≤ length l + 2
     → x ≡ placed 0 (take (end - 2) (drop 2 l)) l → y ≡ placed (end - 2) m x → y ≡ placed 0 (drop 2 (take end l) ++ m) l
 both end m l x y some within fits first second =
-    let size : length (take (end - 2) (drop 2 l)) ≡ end - 2 = length-take-le (end - 2) (drop 2 l) (rw (length-drop 2 l) (omega arith)) in
+    let size : length (take (end - 2) (drop 2 l)) ≡ end - 2 =
+    length-take-le (end - 2) (drop 2 l) (rw (length-drop 2 l) (omega arith)) in
     let sum : 2 + (end - 2) ≡ end = omega arith in
     let behind : drop 2 (take end l) ≡ take (end - 2) (drop 2 l) = rw sum at (drop-take 2 (end - 2) l) in
     rw (second, first, behind)

@@ -11,7 +11,8 @@ returns : tie.Need-returns
 returns c = rw (ne-eqb (c .before .args .kept) 1 (omega arith))
 
 returns-2 : tie.Need-returns-2
-returns-2 c = let a = c .before .before .args in rw (eq-eqb (a .kept) 1 (omega arith), le-ltb 0 (length (now (a .new))) (omega arith))
+returns-2 c = let a =
+    c .before .before .args in rw (eq-eqb (a .kept) 1 (omega arith), le-ltb 0 (length (now (a .new))) (omega arith))
 
 shared-slice-read-result : tie.Need-shared-slice-read-result
 shared-slice-read-result c = search needs

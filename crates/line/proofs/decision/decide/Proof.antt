@@ -35,7 +35,11 @@ enum-known-reading-2 : tie.Need-enum-known-reading-2
 enum-known-reading-2 c = search needs
 
 without-dropped-requires : tie.Need-without-dropped-requires
-without-dropped-requires c κs = (c .before .before .before .before .before .before .before .before .pre .0, c .before .before .before .before .before .before .before .before .pre .1, sym (rw (c .before .before .reading2 .given .1) at (c .before .before .before .before .read .ensures)))
+without-dropped-requires c κs =
+    let told = c .before .before in
+    let read = told .before .before in
+    let start = read .before .before .before .before in
+    (start .pre .0, start .pre .1, sym (rw (told .reading2 .given .1) at (read .read .ensures)))
 
 same-length : tie.Need-same-length
 same-length c = search needs
@@ -47,7 +51,8 @@ returns c =
     let size : length held ≡ a .count = length-take-le (a .count) (now (a .array)) (omega arith) in
     let told = c .before .before .reading .given in
     let h = sym (rw (told .1) at (c .before .before .before .before .read .ensures)) in
-    gives-item (now (a .array)) held (rw size) (c .in-array .result) held (now (a .new)) 0 (told .0 .0) (told .0 .1 .0) (told .0 .1 .1 .0)
+    gives-item (now (a .array)) held (rw size) (c .in-array .result) held (now (a .new)) 0 (told .0 .0) (told .0 .1 .0)
+    (told .0 .1 .1 .0)
     (at-held held (now (a .new)) (ap decides h)) h (omega (arith, size)) (rw size (c .in-array .ensures))
 
 same-length-2 : tie.Need-same-length-2

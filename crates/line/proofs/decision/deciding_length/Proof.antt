@@ -33,10 +33,12 @@ enum-told-3 : tie.Need-enum-told-3
 enum-told-3 c = search needs
 
 sub-len-in : tie.Need-sub-len-in
-sub-len-in c = let a = c .before .before .before .args in omega (arith, reach-within (now (a .new)) (c .before .before .before .pre))
+sub-len-in c = let a =
+    c .before .before .before .args in omega (arith, reach-within (now (a .new)) (c .before .before .before .pre))
 
 part-len-in-start : tie.Need-part-len-in-start
-part-len-in-start c = let a = c .before .before .before .args in omega (arith, reach-within (now (a .new)) (c .before .before .before .pre))
+part-len-in-start c = let a =
+    c .before .before .before .args in omega (arith, reach-within (now (a .new)) (c .before .before .before .pre))
 
 part-len-in-end : tie.Need-part-len-in-end
 part-len-in-end c = search needs
@@ -61,7 +63,8 @@ enum-told-4 : tie.Need-enum-told-4
 enum-told-4 c = search needs
 
 add-result-4 : tie.Need-add-result-4
-add-result-4 c = let a = c .before .before .before .args in omega (arith, scan-within (now (a .new)) (c .before .before .before .pre))
+add-result-4 c = let a =
+    c .before .before .before .args in omega (arith, scan-within (now (a .new)) (c .before .before .before .pre))
 
 returns : tie.Need-returns
 returns c =

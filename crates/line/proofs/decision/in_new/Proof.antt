@@ -19,8 +19,11 @@ enum-known-reading c = search needs
 
 item-in-new-requires : tie.Need-item-in-new-requires
 item-in-new-requires c κs =
-    let told = c .before .before .reading .given .1 in
-    (c .before .before .before .before .before .before .before .pre, sym (rw told at (c .before .before .before .before .read .ensures)))
+    let told = c .before .before .reading .given .1 in (
+      c .before .before .before .before .before .before .before .pre,
+      sym
+          (rw told at (c .before .before .before .before .read .ensures)),
+    )
 
 enum-known-reading-2 : tie.Need-enum-known-reading-2
 enum-known-reading-2 c = search needs
@@ -42,7 +45,8 @@ part-rest-end c = search needs
 
 put-at-requires : tie.Need-put-at-requires
 put-at-requires c κs =
-    let h = sym (rw (c .before .before .before .reading2 .given .1) at (c .before .before .before .before .before .read .ensures)) in
+    let h = sym
+    (rw (c .before .before .before .reading2 .given .1) at (c .before .before .before .before .before .read .ensures)) in
     let new = now (c .before .before .before .before .before .before .before .before .args .new) in
     rw (tail (c .before .before .before .reading2 .given .0 .0) new) (omega (arith, undecided-left new h))
 
@@ -61,12 +65,15 @@ same-length-2 c = search needs
 returns-2 : tie.Need-returns-2
 returns-2 c =
     let e = c .before .before .before .before .before .before .before .reading2 .given .0 .0 in
-    let h = sym (rw (c .before .before .before .before .before .before .before .reading2 .given .1) at (c .before .before .before .before .before .before .before .before .before .read .ensures)) in
+    let h = sym
+    (rw (c .before .before .before .before .before .before .before .reading2 .given .1) at
+    (c .before .before .before .before .before .before .before .before .before .read .ensures)) in
     let a = c .before .before .before .before .before .before .before .before .before .before .before .before .args in
     let new = now (a .new) in
     let rest = tail e new in
     gives-more _ [] new _ h (rw rest at (c .all-held .ensures))
-    (ap (take (length (drop e new))) (rw rest at (c .before .before .before .put-at .ensures)) ∙ front-placed (drop e new) (now (a .array)) (omega (arith, undecided-left new h)))
+    (ap (take (length (drop e new))) (rw rest at (c .before .before .before .put-at .ensures))
+    ∙ front-placed (drop e new) (now (a .array)) (omega (arith, undecided-left new h)))
 
 pub in-new-spec : {M : Type 1} → statement M
 in-new-spec =

@@ -16,25 +16,41 @@ add-follows : tie.Need-add-follows
 add-follows c =
     let s = c .before .before .before in
     let a = s .args in
-    omega (arith, ends (a .item) (a .dropped) (a .removed) (c .deciding-length .result) (now (a .new)) (s .pre .1) (c .deciding-length .ensures))
+    omega (
+      arith,
+      ends (a .item) (a .dropped) (a .removed) (c .deciding-length .result) (now (a .new)) (s .pre .1)
+          (c .deciding-length .ensures),
+    )
 
 sub-follows : tie.Need-sub-follows
 sub-follows c =
     let s = c .before .before .before in
     let a = s .args in
-    omega (arith, ends (a .item) (a .dropped) (a .removed) (c .deciding-length .result) (now (a .new)) (s .pre .1) (c .deciding-length .ensures))
+    omega (
+      arith,
+      ends (a .item) (a .dropped) (a .removed) (c .deciding-length .result) (now (a .new)) (s .pre .1)
+          (c .deciding-length .ensures),
+    )
 
 part-follows-start : tie.Need-part-follows-start
 part-follows-start c =
     let s = c .before .before .before in
     let a = s .args in
-    omega (arith, ends (a .item) (a .dropped) (a .removed) (c .deciding-length .result) (now (a .new)) (s .pre .1) (c .deciding-length .ensures))
+    omega (
+      arith,
+      ends (a .item) (a .dropped) (a .removed) (c .deciding-length .result) (now (a .new)) (s .pre .1)
+          (c .deciding-length .ensures),
+    )
 
 part-follows-end : tie.Need-part-follows-end
 part-follows-end c =
     let s = c .before .before .before in
     let a = s .args in
-    omega (arith, ends (a .item) (a .dropped) (a .removed) (c .deciding-length .result) (now (a .new)) (s .pre .1) (c .deciding-length .ensures))
+    omega (
+      arith,
+      ends (a .item) (a .dropped) (a .removed) (c .deciding-length .result) (now (a .new)) (s .pre .1)
+          (c .deciding-length .ensures),
+    )
 
 put-at-requires : tie.Need-put-at-requires
 put-at-requires c κs =
@@ -43,14 +59,19 @@ put-at-requires c κs =
     let a = s .args in
     let k = l .deciding-length .result in
     let e = ends (a .item) (a .dropped) (a .removed) k (now (a .new)) (s .pre .1) (l .deciding-length .ensures) in
-    rw (length-take (k - (a .dropped + a .removed)) (drop (a .dropped + a .removed) (now (a .new)))) (omega (arith, e .small, e .start))
+    rw (length-take (k - (a .dropped + a .removed)) (drop (a .dropped + a .removed) (now (a .new))))
+    (omega (arith, e .small, e .start))
 
 add-t10 : tie.Need-add-t10
 add-t10 c =
     let l = c .before .before .before .before .before in
     let s = l .before .before .before in
     let a = s .args in
-    omega (arith, ends (a .item) (a .dropped) (a .removed) (l .deciding-length .result) (now (a .new)) (s .pre .1) (l .deciding-length .ensures))
+    omega (
+      arith,
+      ends (a .item) (a .dropped) (a .removed) (l .deciding-length .result) (now (a .new)) (s .pre .1)
+          (l .deciding-length .ensures),
+    )
 
 same-length : tie.Need-same-length
 same-length c = search needs
@@ -65,8 +86,10 @@ returns c =
     let f = follows (a .item) (a .dropped) (a .removed) k (now (a .new)) h (l .deciding-length .ensures) in
     let e = ends (a .item) (a .dropped) (a .removed) k (now (a .new)) h (l .deciding-length .ensures) in
     let small : length f ≤ length (now (a .array)) =
-    rw (length-take (k - (a .dropped + a .removed)) (drop (a .dropped + a .removed) (now (a .new)))) (omega (arith, e .small, e .start)) in
-    gives-new (a .item) (a .dropped) (a .removed) k (now (a .new)) h (l .deciding-length .ensures) _ _ (refl, refl, refl, refl, refl)
+    rw (length-take (k - (a .dropped + a .removed)) (drop (a .dropped + a .removed) (now (a .new))))
+    (omega (arith, e .small, e .start)) in
+    gives-new (a .item) (a .dropped) (a .removed) k (now (a .new)) h (l .deciding-length .ensures) _ _
+    (refl, refl, refl, refl, refl)
     (ap (take (length f)) (c .before .before .put-at .ensures) ∙ front-placed f (now (a .array)) small)
 
 pub item-in-new-spec : {M : Type 1} → statement M

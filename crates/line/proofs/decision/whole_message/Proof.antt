@@ -42,8 +42,9 @@ part-append-behind-syn-end c = search needs
 
 append-behind-syn-requires : tie.Need-append-behind-syn-requires
 append-behind-syn-requires c κs =
-    let p = c .before .before .before .before .before .before .before .before .pre in
-    let a = c .before .before .before .before .before .before .before .before .args in
+    let start = c .before .before .before .before .before .before .before .before in
+    let p = start .pre in
+    let a = start .args in
     let w = waits-for (a .first) (a .before) (now (a .array)) (now (a .new)) (standing (p .0) (p .1) (p .2) (p .3) (p .4) (p .5)) in
     rw (add-sub-cancel-left (a .before) (a .need), length-take (a .need) (drop (a .before) (now (a .new)))) (omega (arith, w))
 
@@ -58,8 +59,9 @@ part-payload-is-sound-end c = search needs
 
 payload-is-sound-requires : tie.Need-payload-is-sound-requires
 payload-is-sound-requires c κs =
-    let p = c .before .before .before .before .before .before .before .before .before .before .before .before .before .pre in
-    let a = c .before .before .before .before .before .before .before .before .before .before .before .before .before .args in
+    let start = c .before .before .before .before .before .before .before .before .before .before .before .before .before in
+    let p = start .pre in
+    let a = start .args in
     let w = waits-for (a .first) (a .before) (now (a .array)) (now (a .new)) (standing (p .0) (p .1) (p .2) (p .3) (p .4) (p .5)) in
     simp (length-take, length-drop) (omega (arith, w, c .before .before .before .before .before .before .before .len-in .ensures))
 
@@ -68,13 +70,20 @@ same-length c = search needs
 
 returns : tie.Need-returns
 returns c =
-    let p = c .before .before .before .before .before .before .before .before .before .before .before .before .before .before .before .pre in
-    let a = c .before .before .before .before .before .before .before .before .before .before .before .before .before .before .before .args in
+    let start = c .before .before .before .before .before .before .before .before .before .before .before .before .before .before .before in
+    let p = start .pre in
+    let a = start .args in
     let s = standing (p .0) (p .1) (p .2) (p .3) (p .4) (p .5) in
-    let left = rw (add-sub-cancel-left (a .before) (a .need)) at (c .before .before .before .before .before .before .append-behind-syn .ensures) in
-    let same = compared (a .first) (a .before) (now (a .array)) (now (a .new)) s (a .need) (p .6) (p .7) _ left _ (c .before .before .before .before .before .before .before .before .before .len-in .ensures .0) in
+    let left =
+    rw (add-sub-cancel-left (a .before) (a .need)) at
+    (c .before .before .before .before .before .before .append-behind-syn .ensures) in
+    let same =
+    compared (a .first) (a .before) (now (a .array)) (now (a .new)) s (a .need) (p .6) (p .7) _ left _
+    (c .before .before .before .before .before .before .before .before .before .len-in .ensures .0) in
     gives-message (a .first) (a .before) (now (a .array)) (now (a .new)) s (a .need) (p .6) (p .7) _ left _ _ _ _
-    (sym same ∙ sym (c .before .payload-is-sound .ensures) ∙ c .if1 .taken) (refl, refl, c .before .before .before .before .before .before .before .before .before .len-in .ensures .0) (refl, refl, refl, refl, refl)
+    (sym same ∙ sym (c .before .payload-is-sound .ensures)
+    ∙ c .if1 .taken) (refl, refl, c .before .before .before .before .before .before .before .before .before .len-in .ensures .0)
+    (refl, refl, refl, refl, refl)
 
 sub-t21 : tie.Need-sub-t21
 sub-t21 c = search needs
@@ -84,11 +93,16 @@ same-length-2 c = search needs
 
 returns-2 : tie.Need-returns-2
 returns-2 c =
-    let p = c .before .before .before .before .before .before .before .before .before .before .before .before .before .before .before .pre in
-    let a = c .before .before .before .before .before .before .before .before .before .before .before .before .before .before .before .args in
+    let start = c .before .before .before .before .before .before .before .before .before .before .before .before .before .before .before in
+    let p = start .pre in
+    let a = start .args in
     let s = standing (p .0) (p .1) (p .2) (p .3) (p .4) (p .5) in
-    let left = rw (add-sub-cancel-left (a .before) (a .need)) at (c .before .before .before .before .before .before .append-behind-syn .ensures) in
-    let same = compared (a .first) (a .before) (now (a .array)) (now (a .new)) s (a .need) (p .6) (p .7) _ left _ (c .before .before .before .before .before .before .before .before .before .len-in .ensures .0) in
+    let left =
+    rw (add-sub-cancel-left (a .before) (a .need)) at
+    (c .before .before .before .before .before .before .append-behind-syn .ensures) in
+    let same =
+    compared (a .first) (a .before) (now (a .array)) (now (a .new)) s (a .need) (p .6) (p .7) _ left _
+    (c .before .before .before .before .before .before .before .before .before .len-in .ensures .0) in
     gives-damaged (a .first) (a .before) (now (a .array)) (now (a .new)) s (a .need) (p .6) (p .7) _ left _
     (sym same ∙ sym (c .before .payload-is-sound .ensures) ∙ c .if1 .left) (refl, refl, refl, refl)
 

@@ -26,18 +26,21 @@ same-length c = search needs
 
 returns : tie.Need-returns
 returns c =
-    let p = c .before .before .before .before .before .before .before .pre in
-    let a = c .before .before .before .before .before .before .before .args in
+    let start = c .before .before .before .before .before .before .before in
+    let p = start .pre in
+    let a = start .args in
     let le = drops (a .count) (a .dropped) (now (a .array)) (p .0) (p .1) (p .2) in
-    decides-same (all-dropped (a .count) (a .dropped) (now (a .array)) (p .0) (p .1) (p .2) (now (a .new)) (omega (arith, le))) (c .before .before .in-new .ensures)
+    decides-same (all-dropped (a .count) (a .dropped) (now (a .array)) (p .0) (p .1) (p .2) (now (a .new)) (omega (arith, le)))
+    (c .before .before .in-new .ensures)
 
 move-to-front-requires : tie.Need-move-to-front-requires
 move-to-front-requires c κs = search needs
 
 after-start-requires : tie.Need-after-start-requires
 after-start-requires c κs =
-    let p = c .before .before .before .before .before .before .before .before .before .pre in
-    let a = c .before .before .before .before .before .before .before .before .before .args in
+    let start = c .before .before .before .before .before .before .before .before .before in
+    let p = start .pre in
+    let a = start .args in
     let le = drops (a .count) (a .dropped) (now (a .array)) (p .0) (p .1) (p .2) in
     let k = a .count - a .dropped in
     let x = c .before .before .before .before .move-to-front .ensures in (
@@ -52,16 +55,20 @@ same-length-2 c = search needs
 
 returns-2 : tie.Need-returns-2
 returns-2 c =
-    let p = c .before .before .before .before .before .before .before .before .before .before .before .before .pre in
-    let a = c .before .before .before .before .before .before .before .before .before .before .before .before .args in
+    let start = c .before .before .before .before .before .before .before .before .before .before .before .before in
+    let p = start .pre in
+    let a = start .args in
     let le = drops (a .count) (a .dropped) (now (a .array)) (p .0) (p .1) (p .2) in
-    decides-same (receives (a .count) (a .dropped) (now (a .array)) (p .0) (p .1) (p .2) (a .count - a .dropped) (omega (arith, le)) _
-    (c .before .before .before .before .before .before .before .move-to-front .ensures) (now (a .new))) (c .before .before .after-start .ensures)
+    decides-same
+    (receives (a .count) (a .dropped) (now (a .array)) (p .0) (p .1) (p .2) (a .count - a .dropped) (omega (arith, le)) _
+    (c .before .before .before .before .before .before .before .move-to-front .ensures) (now (a .new)))
+    (c .before .before .after-start .ensures)
 
 after-header-requires : tie.Need-after-header-requires
 after-header-requires c κs =
-    let p = c .before .before .before .before .before .before .before .before .before .pre in
-    let a = c .before .before .before .before .before .before .before .before .before .args in
+    let start = c .before .before .before .before .before .before .before .before .before in
+    let p = start .pre in
+    let a = start .args in
     let le = drops (a .count) (a .dropped) (now (a .array)) (p .0) (p .1) (p .2) in
     let k = a .count - a .dropped in
     let x = c .before .before .before .before .move-to-front .ensures in
@@ -79,11 +86,14 @@ same-length-3 c = search needs
 
 returns-3 : tie.Need-returns-3
 returns-3 c =
-    let p = c .before .before .before .before .before .before .before .before .before .before .before .before .pre in
-    let a = c .before .before .before .before .before .before .before .before .before .before .before .before .args in
+    let start = c .before .before .before .before .before .before .before .before .before .before .before .before in
+    let p = start .pre in
+    let a = start .args in
     let le = drops (a .count) (a .dropped) (now (a .array)) (p .0) (p .1) (p .2) in
-    decides-same (receives (a .count) (a .dropped) (now (a .array)) (p .0) (p .1) (p .2) (a .count - a .dropped) (omega (arith, le)) _
-    (c .before .before .before .before .before .before .before .move-to-front .ensures) (now (a .new))) (c .before .before .after-header .ensures)
+    decides-same
+    (receives (a .count) (a .dropped) (now (a .array)) (p .0) (p .1) (p .2) (a .count - a .dropped) (omega (arith, le)) _
+    (c .before .before .before .before .before .before .before .move-to-front .ensures) (now (a .new)))
+    (c .before .before .after-header .ensures)
 
 pub without-dropped-spec : {M : Type 1} → statement M
 without-dropped-spec =

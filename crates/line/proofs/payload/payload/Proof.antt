@@ -22,7 +22,8 @@ none : (i : Item) (p : Place) (xs ys : List ℕ) → OneOf (0 ∷ 1 ∷ 2 ∷ []
 none DamagedHeader p xs ys k = refl
 none Forbidden p xs ys k = refl
 none DamagedPayload p xs ys k = refl
-none (Message t q len) p xs ys k = absurd (⊎-elim (λ e. omega (arith, e)) (⊎-elim (λ e. omega (arith, e)) (λ e. omega (arith, e))) k)
+none (Message t q len) p xs ys k =
+    absurd (⊎-elim (λ e. omega (arith, e)) (⊎-elim (λ e. omega (arith, e)) (λ e. omega (arith, e))) k)
 
 enum-known-answer : tie.Need-enum-known-answer
 enum-known-answer c = search needs
@@ -45,7 +46,9 @@ slice-aggregate-result-2 c = search needs
 returns-2 : tie.Need-returns-2
 returns-2 c =
     let a = c .before .before .before .before .before .before .before .args in
-    rw (c .before .before .before .answer .given .1) (none (c .before .before .before .answer .given .0 .0) (a .decision .payload) (now (a .array)) (now (a .new)) (c .before .match2 .keys2))
+    rw (c .before .before .before .answer .given .1)
+    (none (c .before .before .before .answer .given .0 .0) (a .decision .payload) (now (a .array)) (now (a .new))
+    (c .before .match2 .keys2))
 
 enum-known-place : tie.Need-enum-known-place
 enum-known-place c = search needs
@@ -60,10 +63,18 @@ part-requires-2 : tie.Need-part-requires-2
 part-requires-2 c κs = search needs
 
 returns-3 : tie.Need-returns-3
-returns-3 c = rw (c .before .before .before .before .before .before .before .before .answer .given .1, c .before .before .before .before .before .item .given .1, c .before .before .place .given .1) (c .part .ensures)
+returns-3 c =
+    let place = c .before .before in
+    let item = place .before .before .before in
+    let answer = item .before .before .before in
+    rw (answer .answer .given .1, item .item .given .1, place .place .given .1) (c .part .ensures)
 
 returns-4 : tie.Need-returns-4
-returns-4 c = rw (c .before .before .before .before .before .before .before .before .answer .given .1, c .before .before .before .before .before .item .given .1, c .before .before .place2 .given .1) (c .part2 .ensures)
+returns-4 c =
+    let place = c .before .before in
+    let item = place .before .before .before in
+    let answer = item .before .before .before in
+    rw (answer .answer .given .1, item .item .given .1, place .place2 .given .1) (c .part2 .ensures)
 
 pub payload-spec : {M : Type 1} → statement M
 payload-spec =

@@ -18,7 +18,8 @@ settled : (d : Decision) (r : Received) (held new middle exit : List ℕ) → le
     → r .answer ≡ d .answer → r .taken ≡ d .taken → r .count ≡ d .count
     → take (r .count) exit ≡ take (d .count) (drop (d .start) middle) → Receives r held new exit
 settled d r held new middle exit size p answer taken count stands =
-    let kept : take (d .count) (drop (d .start) middle) ≡ spec.receive held new .held = ap (λ (x : spec.Received). x .held) (p .gives) in
+    let kept : take (d .count) (drop (d .start) middle) ≡ spec.receive held new .held =
+    ap (λ (x : spec.Received). x .held) (p .gives) in
     let long : length (take (d .count) (drop (d .start) middle)) ≡ d .count =
     length-take-le (d .count) (drop (d .start) middle) (rw (length-drop (d .start) middle) (omega (arith, p .within))) in
     record {
@@ -40,7 +41,9 @@ same-length c = search needs
 
 returns : tie.Need-returns
 returns c =
-    settled (c .before .before .before .before .before .before .decide .result) _ _ _ (c .before .before .before .before .before .before .decide .last .0) _ (omega arith) (c .before .before .before .before .before .before .decide .ensures) refl refl (c .before .before .settle .ensures .0)
+    settled (c .before .before .before .before .before .before .decide .result) _ _ _
+    (c .before .before .before .before .before .before .decide .last .0) _ (omega arith)
+    (c .before .before .before .before .before .before .decide .ensures) refl refl (c .before .before .settle .ensures .0)
     (c .before .before .settle .ensures .1)
 
 pub receive-in-spec : {M : Type 1} → statement M

@@ -20,8 +20,12 @@ returns c =
     let a = c .before .before .before .before .before .args in
     let d = a .decision in
     let part = take (d .count) (drop (d .start) (now (a .array))) in
-    let size : length part ≡ d .count = length-take-le (d .count) (drop (d .start) (now (a .array))) (rw (length-drop (d .start) (now (a .array))) (omega arith)) in
-    (refl, ap (take (d .count)) (c .before .before .move-to-front .ensures) ∙ (rw size at (front-placed part (now (a .array)) (omega (arith, size)))))
+    let size : length part ≡ d .count =
+    length-take-le (d .count) (drop (d .start) (now (a .array))) (rw (length-drop (d .start) (now (a .array))) (omega arith)) in (
+      refl,
+      ap (take (d .count)) (c .before .before .move-to-front .ensures)
+          ∙ (rw size at (front-placed part (now (a .array)) (omega (arith, size)))),
+    )
 
 pub settle-spec : {M : Type 1} → statement M
 settle-spec = tie.close (tie.spec move-to-front-requires same-length returns)

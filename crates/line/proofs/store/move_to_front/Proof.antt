@@ -54,7 +54,8 @@ loop-less c = omega arith
 loop-again : tie.Need-loop-again Inv-loop μ-loop
 loop-again c =
     let a = c .before .before .before .before .args in
-    step (a .from) (a .count) (c .before .before .loop .i) (now (a .array)) (c .before .before .loop .array) (omega arith) (omega arith)
+    step (a .from) (a .count) (c .before .before .loop .i) (now (a .array)) (c .before .before .loop .array) (omega arith)
+    (omega arith)
     (c .before .before .loop .inv)
 
 same-length : tie.Need-same-length Inv-loop μ-loop

@@ -15,7 +15,9 @@ same-length : tie.Need-same-length
 same-length c = search needs
 
 returns : tie.Need-returns
-returns c = let p = c .before .before .put .ensures in (p .0, rw (word-ack (c .before .before .before .before .before .before .before .args .kind) (omega arith)) (p .1))
+returns c = let p =
+    c .before .before .put .ensures in
+    (p .0, rw (word-ack (c .before .before .before .before .before .before .before .args .kind) (omega arith)) (p .1))
 
 slice-aggregate-put-2 : tie.Need-slice-aggregate-put-2
 slice-aggregate-put-2 c = search needs
@@ -27,7 +29,12 @@ same-length-2 : tie.Need-same-length-2
 same-length-2 c = search needs
 
 returns-2 : tie.Need-returns-2
-returns-2 c = let p = c .before .before .put2 .ensures in (p .0, rw (word-nak (c .before .before .before .before .before .before .before .before .args .kind) (omega arith) (omega arith)) (p .1))
+returns-2 c = let p =
+    c .before .before .put2 .ensures in (
+      p .0,
+      rw (word-nak (c .before .before .before .before .before .before .before .before .args .kind) (omega arith) (omega arith))
+          (p .1),
+    )
 
 slice-aggregate-put-3 : tie.Need-slice-aggregate-put-3
 slice-aggregate-put-3 c = search needs
@@ -39,7 +46,13 @@ same-length-3 : tie.Need-same-length-3
 same-length-3 c = search needs
 
 returns-3 : tie.Need-returns-3
-returns-3 c = let p = c .before .before .put3 .ensures in (p .0, rw (word-seq (c .before .before .before .before .before .before .before .before .before .args .kind) (omega arith) (omega arith) (omega arith)) (p .1))
+returns-3 c = let p =
+    c .before .before .put3 .ensures in (
+      p .0,
+      rw
+          (word-seq (c .before .before .before .before .before .before .before .before .before .args .kind) (omega arith) (omega arith)
+          (omega arith)) (p .1),
+    )
 
 slice-aggregate-put-4 : tie.Need-slice-aggregate-put-4
 slice-aggregate-put-4 c = search needs
@@ -51,7 +64,13 @@ same-length-4 : tie.Need-same-length-4
 same-length-4 c = search needs
 
 returns-4 : tie.Need-returns-4
-returns-4 c = let p = c .before .before .put4 .ensures in (p .0, rw (word-nsq (c .before .before .before .before .before .before .before .before .before .args .kind) (omega arith) (omega arith) (omega arith)) (p .1))
+returns-4 c = let p =
+    c .before .before .put4 .ensures in (
+      p .0,
+      rw
+          (word-nsq (c .before .before .before .before .before .before .before .before .before .args .kind) (omega arith) (omega arith)
+          (omega arith)) (p .1),
+    )
 
 pub put-word-spec : {M : Type 1} → statement M
 put-word-spec =
