@@ -1,16 +1,16 @@
--- Held bytes that decide nothing: those that are dropped go, and the others are moved to the front.
+-- Held bytes that decide nothing: those that are dropped go, and the others receive the same.
 use Prim.Native.Nat.{ℕ, _+_, _≤_}
 use mathlib.Core.List.{List, [], append-nil}
 use mathlib.Core.Path.{_≡_, sym, ap, _∙_}
 use native.Mathlib.Omega.{arith}
-use lib.ListN.{length, take, drop, length-drop, drop-of-length-le}
+use lib.ListN.{length, take, drop, drop-of-length-le}
 use lib.Seq.{length-take-le}
 use Rattle.message.specs.Items.{Scan, undecided, decided, dropped, scan}
 use Rattle.message.proofs.Dropping.{dropped-within}
 use Rattle.line.specs.Receiving.{heldMax, receive}
-use Rattle.line.proofs.Gives.{undecided-left, front-placed}
+use Rattle.line.proofs.Gives.{undecided-left}
 use Rattle.line.proofs.Joined.{later, scan-joined}
-use Rattle.line.proofs.Moving.{moved, length-moved, drop-take}
+use Rattle.line.proofs.Moving.{drop-take}
 use Rattle.line.proofs.Taking.{receive-dropped}
 
 left-by : (d : ℕ) (s : Scan) → undecided d ≡ later d s → s ≡ undecided 0
@@ -42,21 +42,13 @@ module _ (count d : ℕ) (array : List ℕ) (size : length array ≡ heldMax) (w
   all-dropped new same =
       rw (drop-of-length-le (take count array) {i = d} (omega (arith, length-held))) at (left-receives (take count array) new none)
 
-  -- some are left, and stand at the front now
-  module _ (kept : ℕ) (sum : d + kept ≡ count) (exit : List ℕ) (stands : exit ≡ moved d kept array) where
-    pub size-exit : length exit ≡ heldMax
-    size-exit = rw stands (length-moved d kept array (omega arith) ∙ size)
+  -- some are left
+  module _ (kept : ℕ) (sum : d + kept ≡ count) where
+    there : take kept (drop d array) ≡ drop d (take count array)
+    there = rw (← sum) (sym (drop-take d kept array))
 
-    size-kept : length (take kept (drop d array)) ≡ kept
-    size-kept = length-take-le kept (drop d array) (rw (length-drop d array) (omega arith))
-
-    pub there : take kept exit ≡ drop d (take count array)
-    there =
-        rw (stands, ← sum, drop-take d kept array)
-        (rw size-kept at (front-placed (take kept (drop d array)) array (omega (arith, size-kept))))
-
-    pub waits : scan (take kept exit) ≡ undecided 0
+    pub waits : scan (take kept (drop d array)) ≡ undecided 0
     waits = rw there (left-waits (take count array) none)
 
-    pub receives : (new : List ℕ) → receive (take count array) new ≡ receive (take kept exit) new
+    pub receives : (new : List ℕ) → receive (take count array) new ≡ receive (take kept (drop d array)) new
     receives new = rw there (left-receives (take count array) new none)

@@ -56,3 +56,7 @@ pub drop-take : (a n : ℕ) (l : List ℕ) → drop a (take (a + n) l) ≡ take 
 drop-take zero n l = rw (zero-add n)
 drop-take (suc a) n [] = rw (take-nil (suc a + n), take-nil n)
 drop-take (suc a) n (x ∷ l) = let sum : suc a + n ≡ suc (a + n) = omega arith in rw sum (drop-take a n l)
+
+-- how long a part is
+pub length-part : (a n : ℕ) (l : List ℕ) → a + n ≤ length l → length (take n (drop a l)) ≡ n
+length-part a n l within = length-take-le n (drop a l) (rw (length-drop a l) (omega arith))

@@ -5,24 +5,26 @@ use mathlib.Core.List.{List, [], _∷_, _++_}
 use mathlib.Core.Path.{_≡_, refl, sym, ap, _∙_}
 use native.Mathlib.Omega.{arith}
 use lib.Dec.{eqb, ltb}
-use lib.ListN.{length, take, drop, getD, length-append, length-take}
-use lib.Seq.{take-at, take-length, length-take-le, getD-take}
+use lib.ListN.{length, take, drop, getD, length-append, length-take, length-drop}
+use lib.Seq.{take-length, length-take-le, getD-take}
 use borrow.Author.Tests.{eq-eqb, eqb-true, ltb-true, lt-ltb, not-true}
 use Rattle.message.specs.Bytes.{headerLength, syn2}
-use Rattle.message.specs.Items.{undecided, decided, stands, dropped, scan}
+use Rattle.message.specs.Items.{Scan, undecided, decided, stands, dropped, scan, payloadOf}
 use Rattle.message.specs.Promises.{itemOf}
 use Rattle.message.specs.Writing.{placed}
 use Rattle.message.specs.declared.reader.Item.{Item}
-use Rattle.message.proofs.Buffer.{through-placed, length-placed}
+use Rattle.message.specs.declared.reader.Item.the-variants.{DamagedHeader, Forbidden, DamagedPayload, Message}
 use Rattle.message.proofs.Dropping.{dropped-here, stands-left}
+use Rattle.message.proofs.Found.{message-at}
 use Rattle.message.proofs.Headers.{both}
-use Rattle.message.proofs.Rules.{rule-1}
-use Rattle.line.specs.Promises.{Decides}
+use Rattle.message.proofs.Rules.{Applied, by-1, by-2, by-3, by-4, by-5, by-6, applied, rule-1}
+use Rattle.line.specs.Code.{breaks}
+use Rattle.line.specs.Promises.{Decides, partOf}
 use Rattle.line.specs.Receiving.{heldMax, receive}
-use Rattle.line.specs.declared.Answer.the-variants.{More, One}
-use Rattle.line.specs.declared.Place.the-variants.{Held}
+use Rattle.line.specs.declared.Answer.the-variants.{One}
+use Rattle.line.specs.declared.Place.{Place}
 use Rattle.line.specs.declared.decision.Decision.{Decision}
-use Rattle.line.proofs.Gives.{undecided-left, gives-more, gives-item}
+use Rattle.line.proofs.Gives.{undecided-left, front-placed}
 use Rattle.line.proofs.Reach.{reach-within}
 use Rattle.line.proofs.Taking.{at-item, receive-lone}
 
@@ -30,10 +32,6 @@ use Rattle.line.proofs.Taking.{at-item, receive-lone}
 pub decides-same : {d : Decision} {held other new exit : List ℕ} → receive held new ≡ receive other new → Decides d other new exit
     → Decides d held new exit
 decides-same same p = record { gives = p .gives ∙ sym same; within = p .within }
-
--- whether a lone byte is held and the next is not SYN's second
-abbrev pub breaks : ℕ → List ℕ → Bool
-breaks kept new = eqb kept 1 && (ltb 0 (length new) && not (eqb (getD new 0 0) syn2))
 
 -- then it goes
 lone : (held new : List ℕ) → length held ≡ 1 → 0 < length new → eqb (getD new 0 0) syn2 ≡ false → receive held new ≡ receive [] new
@@ -66,73 +64,73 @@ short-scan : (xs : List ℕ) → dropped xs ≡ 0 → length xs < headerLength �
 unfolding scan
 short-scan xs front short = rw front (rule-1 0 xs short)
 
-module _ (kept : ℕ) (array new : List ℕ) (size : length array ≡ heldMax) (some : 0 < kept) (few : kept < headerLength)
-    (none : scan (take kept array) ≡ undecided 0) where
-  abbrev held : List ℕ
-  held = take kept array
+-- an item of a header's eight bytes is no message, and its SYN is removed
+header-by : (n : ℕ) (xs : List ℕ) {i : _} {d r : ℕ} (s : Scan) → Applied n xs s → s ≡ decided i d r → length xs ≤ headerLength → r
+    ≡ 2
+header-by n xs s (by-1 short e) h few = let z : _≡_ {A = ℕ} 0 1 = cc in absurd (omega arith)
+header-by n xs s (by-2 long bad e) h few = cc
+header-by n xs s (by-3 long sound bad e) h few = cc
+header-by n xs s (by-4 long sound fine short e) h few = let z : _≡_ {A = ℕ} 0 1 = cc in absurd (omega arith)
+header-by n xs s (by-5 long sound fine whole bad e) h few = absurd (omega arith)
+header-by n xs s (by-6 long sound fine whole good e) h few = absurd (omega arith)
 
-  pub count : length held ≡ kept
-  count = length-take-le kept array (omega arith)
+header-removes : (xs : List ℕ) {i : _} {d r : ℕ} → scan xs ≡ decided i d r → length xs ≡ headerLength → r ≡ 2
+unfolding scan
+header-removes xs h size =
+    header-by (dropped xs) (drop (dropped xs) xs) (scan xs) (applied (dropped xs) (drop (dropped xs) xs)) h
+    (rw (length-drop (dropped xs) xs) (omega arith))
 
+no-payload : (i : Item) (xs : List ℕ) (n r : ℕ) → scan xs ≡ decided (itemOf i) n r → length xs ≡ headerLength
+    → (place : Place) (array new : List ℕ) → partOf (One i) place array new ≡ payloadOf xs
+unfolding payloadOf
+no-payload DamagedHeader xs n r h size place array new = rw h
+no-payload Forbidden xs n r h size place array new = rw h
+no-payload DamagedPayload xs n r h size place array new = rw h
+no-payload (Message t q len) xs n r h size place array new =
+    absurd (omega (arith, message-at xs h .whole, length-drop (dropped xs) xs))
+
+module _ (kept : ℕ) (held new : List ℕ) (size : length held ≡ kept) (some : 0 < kept) (none : scan held ≡ undecided 0) where
   at-front : dropped held ≡ 0
   at-front = sym (undecided-left held none .0)
 
   here : stands held ≡ true
-  here = rw at-front at (stands-left held (rw at-front (omega (arith, count))))
+  here = rw at-front at (stands-left held (rw at-front (omega arith)))
 
   keeps : breaks kept new ≡ false → (j : ℕ) → dropped (held ++ take j new) ≡ 0
   keeps wrong j = keeps-at held (take j new) here (λ one more.
       let n : (0 < j) × (0 < length new) = omega (arith, rw (length-take j new) at more) in
       getD-take j new 0 0 (n .0) ∙ eqb-true (getD new 0 0) syn2
-      (unbroken kept (length new) (eqb (getD new 0 0) syn2) wrong (sym count ∙ one) (n .1)))
+      (unbroken kept (length new) (eqb (getD new 0 0) syn2) wrong (sym size ∙ one) (n .1)))
 
-  -- too few for a header: all are held
-  pub gives-start : (d : Decision) (exit : List ℕ) → breaks kept new ≡ false → kept + length new < headerLength
-      → (d .answer ≡ More) × (d .taken ≡ length new) × (d .start ≡ 0) × (d .count ≡ kept + length new)
-      → exit ≡ placed kept new array → Decides d held new exit
-  gives-start d exit wrong short said stands =
-      let sum : length (held ++ new) ≡ kept + length new = length-append held new ∙ rw count in
+  -- too few for a header
+  pub start-waits : breaks kept new ≡ false → kept + length new < headerLength → scan (held ++ new) ≡ undecided 0
+  start-waits wrong short =
       let front : dropped (held ++ new) ≡ 0 = rw (take-length new) at (keeps wrong (length new)) in
-      let waits : scan (held ++ new) ≡ undecided 0 = short-scan (held ++ new) front (omega arith) in
-      gives-more d held new exit {e = 0} waits (said .0, said .1, said .2, rw sum (said .3))
-      (rw (sum, stands) (through-placed kept new array (omega arith)))
+      short-scan (held ++ new) front (rw (length-append held new, size) short)
 
-  -- enough for a header: the missing bytes are put behind
-  module _ (missing : ℕ) (sum : kept + missing ≡ headerLength) (enough : missing ≤ length new) (exit : List ℕ)
-      (stands : exit ≡ placed kept (take missing new) array) where
-    abbrev whole : List ℕ
+  -- enough for a header
+  module _ (missing : ℕ) (sum : kept + missing ≡ headerLength) (enough : missing ≤ length new) where
+    abbrev pub whole : List ℕ
     whole = held ++ take missing new
 
-    size-missing : length (take missing new) ≡ missing
-    size-missing = length-take-le missing new enough
+    pub size-whole : length whole ≡ headerLength
+    size-whole = length-append held (take missing new) ∙ rw (length-take-le missing new enough, size) sum
 
-    size-whole : length whole ≡ headerLength
-    size-whole = length-append held (take missing new) ∙ rw (count, size-missing) sum
+    pub header-waits : breaks kept new ≡ false → {n : ℕ} → scan whole ≡ undecided n → scan whole ≡ undecided 0
+    header-waits wrong h = h ∙ ap undecided (undecided-left whole h .0 ∙ keeps wrong missing)
 
-    pub size-exit : length exit ≡ heldMax
-    size-exit = rw stands (length-placed kept (take missing new) array (omega (arith, size-missing)) ∙ size)
-
-    pub there : take headerLength exit ≡ whole
-    there = rw stands (rw (size-missing, sum) at (through-placed kept (take missing new) array (omega (arith, size-missing))))
-
-    pub before : take kept exit ≡ held
-    unfolding placed
-    before = rw stands (take-at held (take missing new ++ drop (kept + length (take missing new)) array) kept count)
-
-    pub gives-header : (d : Decision) (i : Item) (n r : ℕ) → decided (itemOf i) n r ≡ scan (take headerLength exit)
-        → (d .answer ≡ One i) × (d .taken ≡ missing) × (d .start ≡ n + r) × (d .start + d .count ≡ headerLength)
-        × (d .payload ≡ Held (n + headerLength)) → Decides d held new exit
-    gives-header d i n r read said =
-        let h : scan whole ≡ decided (itemOf i) n r = sym (rw there at read) in
+    pub gives-header : (d : Decision) (i : Item) (n r : ℕ) (array exit : List ℕ) → breaks kept new ≡ false
+        → scan whole ≡ decided (itemOf i) n r → length array ≡ heldMax → exit ≡ placed 0 (drop 2 whole) array
+        → (d .answer ≡ One i) × (d .taken ≡ missing) × (d .start ≡ 0) × (d .count ≡ 6) → Decides d held new exit
+    gives-header d i n r array exit wrong h full stands said =
+        let two : r ≡ 2 = header-removes whole h size-whole in
         let w = reach-within whole h in
-        gives-item exit whole (rw size-whole there) d held new missing i n r
-        (at-item held new missing {i = itemOf i} {d = n} {r = r} enough h (omega (arith, w, count, size-whole)))
-        h (omega (arith, size-whole)) (said .0, said .1, said .2, rw size-whole (said .3), said .4)
-
-    -- a header that waits for its body
-    pub header-waits : breaks kept new ≡ false → (n : ℕ) → undecided n ≡ scan (take headerLength exit)
-        → (take (kept + missing) exit ≡ take kept exit ++ take missing new) × (scan (take (kept + missing) exit) ≡ undecided 0)
-    header-waits wrong n read =
-        let h : scan whole ≡ undecided n = sym (rw there at read) in
-        let front : n ≡ 0 = undecided-left whole h .0 ∙ keeps wrong missing in
-        (rw (sum, before) there, rw (sum, there) (h ∙ ap undecided front))
+        let front : n ≡ 0 = w .0 ∙ keeps wrong missing in
+        let six : length (drop 2 whole) ≡ 6 = rw (length-drop 2 whole, size-whole) in
+        let kept : take 6 exit ≡ drop 2 whole = rw stands (rw six at (front-placed (drop 2 whole) array (omega (arith, six)))) in
+        let got = at-item held new missing {i = itemOf i} {d = n} {r = r} enough h (omega (arith, w, size-whole)) in
+        record {
+          gives = rw
+              (said .0, said .1, said .2, said .3, got, h, kept, no-payload i whole n r h size-whole (d .payload) exit new, front, two);
+          within = omega (arith, said .2, said .3);
+        }

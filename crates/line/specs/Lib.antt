@@ -1,3 +1,4 @@
 pub mod Receiving
 pub mod Cuts
 pub mod Promises
+pub mod Code

@@ -1,5 +1,6 @@
 // Held bytes and new ones become at most one item a call (document 01, "How bytes become items").
 pub mod decision; // which item, and what is held then
+mod joining; // a message of which a part is held
 pub mod payload; // the payload of a message
 pub mod receiving; // the same with the held bytes at the front
 mod store; // bytes moved within the lent array

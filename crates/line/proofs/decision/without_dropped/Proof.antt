@@ -1,14 +1,13 @@
--- `line::decision::without_dropped` meets its contract: what is left receives the same.
+-- `line::decision::without_dropped` meets its contract: what is left receives the same, or plays no part.
 use Prim.Native.Nat.{_-_}
-use mathlib.Core.List.{append-nil}
-use mathlib.Core.Path.{sym}
-use native.Mathlib.Nat.{add-zero}
+use mathlib.Core.Path.{sym, _∙_}
 use native.Mathlib.Omega.{arith}
-use lib.ListN.{take}
+use lib.ListN.{take, drop}
 use borrow.Author.Needs.{needs}
 use denote.Ref.{now}
-use Rattle.line.proofs.Dropped.{drops, all-dropped, size-exit, waits, receives}
-use Rattle.line.proofs.Start.{decides-same}
+use Rattle.line.proofs.Dropped.{drops, all-dropped, waits, receives}
+use Rattle.line.proofs.Moving.{length-part}
+use Rattle.line.proofs.Start.{decides-same, broken}
 use Rattle.line.proofs.decision.without_dropped.Statement.{statement}
 use Rattle.line.proofs.decision.without_dropped.Tie as tie
 
@@ -30,55 +29,45 @@ returns c =
     let p = start .pre in
     let a = start .args in
     let le = drops (a .count) (a .dropped) (now (a .array)) (p .0) (p .1) (p .2) in
-    decides-same (all-dropped (a .count) (a .dropped) (now (a .array)) (p .0) (p .1) (p .2) (now (a .new)) (omega (arith, le)))
+    decides-same
+    (all-dropped (a .count) (a .dropped) (now (a .array)) (p .0) (p .1) (p .2) (now (a .new)) (omega (arith, le)))
     (c .before .before .in-new .ensures)
 
-move-to-front-requires : tie.Need-move-to-front-requires
-move-to-front-requires c κs = search needs
+breaks-syn-requires : tie.Need-breaks-syn-requires
+breaks-syn-requires c κs = search needs
 
-after-start-requires : tie.Need-after-start-requires
-after-start-requires c κs =
-    let start = c .before .before .before .before .before .before .before .before .before in
-    let p = start .pre in
-    let a = start .args in
-    let le = drops (a .count) (a .dropped) (now (a .array)) (p .0) (p .1) (p .2) in
-    let k = a .count - a .dropped in
-    let x = c .before .before .before .before .move-to-front .ensures in (
-      size-exit (a .count) (a .dropped) (now (a .array)) (p .0) (p .1) (p .2) k (omega (arith, le)) _ x,
-      omega arith,
-      omega arith,
-      waits (a .count) (a .dropped) (now (a .array)) (p .0) (p .1) (p .2) k (omega (arith, le)) _ x,
-    )
+in-new-requires-2 : tie.Need-in-new-requires-2
+in-new-requires-2 c κs = search needs
 
 same-length-2 : tie.Need-same-length-2
 same-length-2 c = search needs
 
 returns-2 : tie.Need-returns-2
 returns-2 c =
-    let start = c .before .before .before .before .before .before .before .before .before .before .before .before in
-    let p = start .pre in
-    let a = start .args in
-    let le = drops (a .count) (a .dropped) (now (a .array)) (p .0) (p .1) (p .2) in
-    decides-same
-    (receives (a .count) (a .dropped) (now (a .array)) (p .0) (p .1) (p .2) (a .count - a .dropped) (omega (arith, le)) _
-    (c .before .before .before .before .before .before .before .move-to-front .ensures) (now (a .new)))
-    (c .before .before .after-start .ensures)
-
-after-header-requires : tie.Need-after-header-requires
-after-header-requires c κs =
     let start = c .before .before .before .before .before .before .before .before .before in
     let p = start .pre in
     let a = start .args in
     let le = drops (a .count) (a .dropped) (now (a .array)) (p .0) (p .1) (p .2) in
-    let k = a .count - a .dropped in
-    let x = c .before .before .before .before .move-to-front .ensures in
-    let w = waits (a .count) (a .dropped) (now (a .array)) (p .0) (p .1) (p .2) k (omega (arith, le)) _ x in (
-      size-exit (a .count) (a .dropped) (now (a .array)) (p .0) (p .1) (p .2) k (omega (arith, le)) _ x,
+    let kept = a .count - a .dropped in
+    let held = take kept (drop (a .dropped) (now (a .array))) in
+    let size = length-part (a .dropped) kept (now (a .array)) (omega (arith, le)) in
+    decides-same
+    (receives (a .count) (a .dropped) (now (a .array)) (p .0) (p .1) (p .2) kept (omega (arith, le)) (now (a .new))
+    ∙ broken kept held (now (a .new)) size (sym (c .before .before .before .before .before .breaks-syn .ensures)
+    ∙ c .before .before .before .before .if2 .taken))
+    (c .before .before .in-new2 .ensures)
+
+join-requires : tie.Need-join-requires
+join-requires c κs =
+    let start = c .before .before .before .before .before .before in
+    let p = start .pre in
+    let a = start .args in
+    let le = drops (a .count) (a .dropped) (now (a .array)) (p .0) (p .1) (p .2) in (
+      p .0,
+      omega (arith, le),
       omega arith,
-      omega arith,
-      omega arith,
-      rw (add-zero k) (sym (append-nil (take k (c .before .before .before .before .move-to-front .last .0)))),
-      rw (add-zero k) w,
+      waits (a .count) (a .dropped) (now (a .array)) (p .0) (p .1) (p .2) (a .count - a .dropped) (omega (arith, le)),
+      sym (c .before .before .breaks-syn .ensures) ∙ c .before .if2 .left,
     )
 
 same-length-3 : tie.Need-same-length-3
@@ -86,14 +75,14 @@ same-length-3 c = search needs
 
 returns-3 : tie.Need-returns-3
 returns-3 c =
-    let start = c .before .before .before .before .before .before .before .before .before .before .before .before in
+    let start = c .before .before .before .before .before .before .before .before .before in
     let p = start .pre in
     let a = start .args in
     let le = drops (a .count) (a .dropped) (now (a .array)) (p .0) (p .1) (p .2) in
     decides-same
-    (receives (a .count) (a .dropped) (now (a .array)) (p .0) (p .1) (p .2) (a .count - a .dropped) (omega (arith, le)) _
-    (c .before .before .before .before .before .before .before .move-to-front .ensures) (now (a .new)))
-    (c .before .before .after-header .ensures)
+    (receives (a .count) (a .dropped) (now (a .array)) (p .0) (p .1) (p .2) (a .count - a .dropped) (omega (arith, le))
+    (now (a .new)))
+    (c .before .before .join .ensures)
 
 pub without-dropped-spec : {M : Type 1} → statement M
 without-dropped-spec =
@@ -103,10 +92,10 @@ without-dropped-spec =
     in-new-requires
     same-length
     returns
-    move-to-front-requires
-    after-start-requires
+    breaks-syn-requires
+    in-new-requires-2
     same-length-2
     returns-2
-    after-header-requires
+    join-requires
     same-length-3
     returns-3)
