@@ -10,7 +10,7 @@ use lib.Seq.{take-add, length-take-le}
 use borrow.Author.Tests.{leb-true, leb-false}
 use Rattle.message.specs.Items.{Item, Scan, undecided, decided, scan}
 use Rattle.message.proofs.Found.{scan-within}
-use Rattle.line.specs.Cuts.{handed}
+use Rattle.line.specs.Cuts.{handed, gone, goneIn, Accounted}
 use Rattle.line.specs.Receiving.{heldMax, decides, taken, left, receive}
 use Rattle.line.proofs.Gives.{undecided-left}
 use Rattle.line.proofs.Got.{Got, got-more, got-item, got}
@@ -61,19 +61,6 @@ bounded-by held new (got-item k within h none got-it) few = rw (got-it, h) (item
 pub receive-bounded : (held new : List ℕ) → length held ≤ heldMax → length (receive held new .held) ≤ heldMax
 receive-bounded held new few = bounded-by held new (got held new) few
 
--- how many bytes go with what is said: those dropped, and those removed with an item
-abbrev pub gone : Scan → ℕ
-gone (undecided d) = d
-gone (decided i d r) = d + r
-
-abbrev pub goneIn : (held new : List ℕ) → ℕ
-goneIn held new = gone (scan (held ++ take (receive held new .taken) new))
-
--- all that was handed in: what went, in order, then what is held in the end
-pub record Accounted (held piece : List ℕ) : Type 0 where
-  pub gone : List ℕ
-  pub all : held ++ piece ≡ gone ++ handed held piece .held
-
 -- the bytes that a call looks at: those that go, then those held
 accounted-by : (s : Scan) (xs : List ℕ) → xs ≡ take (gone s) xs ++ left s xs
 accounted-by (undecided d) xs = sym (take-append-drop d xs)
@@ -93,21 +80,21 @@ all-split held piece t =
 module _ (n : ℕ) (again : (held piece : List ℕ) → size held piece < n → Accounted held piece) where
   accounts-by : (held piece : List ℕ) → Got held piece → size held piece < suc n → Accounted held piece
   accounts-by held piece (got-more {e} h got-it) few = record {
-    gone = take e (held ++ piece);
+    went = take e (held ++ piece);
     all = rw (handed-step held piece, got-it, h) (sym (take-append-drop e (held ++ piece)));
   }
   accounts-by held piece (got-item {i} {d} {r} t within h none got-it) few =
       let shrinks = item-shrinks held piece t within h in
       let rest = again (drop (d + r) (held ++ take t piece)) (drop t piece) (omega arith) in
       record {
-        gone = take (d + r) (held ++ take t piece) ++ rest .gone;
+        went = take (d + r) (held ++ take t piece) ++ rest .went;
         all =
             rw (handed-step held piece, got-it, h)
             (sym (all-split held piece t)
             ∙ ap (λ (l : List ℕ). l ++ drop t piece) (sym (take-append-drop (d + r) (held ++ take t piece)))
             ∙ append-assoc (take (d + r) (held ++ take t piece)) (drop (d + r) (held ++ take t piece)) (drop t piece)
             ∙ ap (λ (l : List ℕ). take (d + r) (held ++ take t piece) ++ l) (rest .all)
-            ∙ sym (append-assoc (take (d + r) (held ++ take t piece)) (rest .gone) _));
+            ∙ sym (append-assoc (take (d + r) (held ++ take t piece)) (rest .went) _));
       }
 
 accounts-within : (n : ℕ) (held piece : List ℕ) → size held piece < n → Accounted held piece

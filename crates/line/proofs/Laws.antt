@@ -7,9 +7,8 @@ use mathlib.Core.Path.{_≡_}
 use lib.ListN.{length, take, drop}
 use Rattle.message.specs.Bytes.{maxLen}
 use Rattle.message.specs.Items.{message, scan}
-use Rattle.line.specs.Cuts.{found, before, handed, handedEach, joined}
+use Rattle.line.specs.Cuts.{found, before, handed, handedEach, joined, goneIn, Accounted}
 use Rattle.line.specs.Receiving.{heldMax, decides, more, item, answered, receive}
-use Rattle.line.proofs.Bounds.{goneIn, Accounted}
 use Rattle.line.proofs.Bounds as bounds
 use Rattle.line.proofs.Got.{Removes}
 use Rattle.line.proofs.Got as got

@@ -2,9 +2,10 @@
 -- receive answers *more*".
 use Prim.Native.Nat.{ℕ, zero, suc, _+_}
 use mathlib.Core.List.{List, [], _∷_, _++_}
-use lib.ListN.{length, drop}
-use Rattle.message.specs.Items.{Item}
-use Rattle.line.specs.Receiving.{Answer, more, item, Received, receive}
+use mathlib.Core.Path.{_≡_}
+use lib.ListN.{length, take, drop}
+use Rattle.message.specs.Items.{Item, Scan, undecided, decided, scan}
+use Rattle.line.specs.Receiving.{Answer, more, item, receive}
 
 -- an item that was found, with its payload
 pub data Found : Type 0 where
@@ -45,3 +46,17 @@ handedEach held (piece ∷ pieces) =
 unfoldable pub joined : List (List ℕ) → List ℕ
 joined [] = []
 joined (piece ∷ pieces) = piece ++ joined pieces
+
+-- where every byte goes: how many are dropped, and removed with an item
+abbrev pub gone : Scan → ℕ
+gone (undecided d) = d
+gone (decided i d r) = d + r
+
+-- the same in a call, of the bytes that it looks at
+abbrev pub goneIn : (held new : List ℕ) → ℕ
+goneIn held new = gone (scan (held ++ take (receive held new .taken) new))
+
+-- all that was handed in: what went, in order, then what is held in the end
+pub record Accounted (held piece : List ℕ) : Type 0 where
+  pub went : List ℕ
+  pub all : held ++ piece ≡ went ++ handed held piece .held

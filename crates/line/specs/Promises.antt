@@ -3,12 +3,10 @@ use Prim.Native.Nat.{ℕ, _+_, _≤_}
 use mathlib.Core.List.{List, []}
 use mathlib.Core.Path.{_≡_}
 use lib.ListN.{length, take, drop}
-use Rattle.message.specs.Items as items
 use Rattle.message.specs.Promises.{itemOf}
-use Rattle.message.specs.declared.reader.Item.{Item}
 use Rattle.message.specs.declared.reader.Item.the-variants.{DamagedHeader, Forbidden, DamagedPayload, Message}
-use Rattle.line.specs.Receiving as spec
 use Rattle.line.specs.Receiving.{heldMax, receive}
+use Rattle.line.specs.Receiving as spec
 use Rattle.line.specs.declared.Answer.{Answer}
 use Rattle.line.specs.declared.Answer.the-variants.{More, One}
 use Rattle.line.specs.declared.Place.{Place}

@@ -6,7 +6,7 @@ use mathlib.Core.Path.{_≡_}
 use lib.Dec.{eqb, leb}
 use lib.ListN.{length, take}
 use Rattle.message.specs.Items.{damagedHeader, forbidden, damagedPayload, message}
-use Rattle.line.specs.Receiving.{heldMax, Answer, more, item, Received, receive}
+use Rattle.line.specs.Receiving.{heldMax, Answer, more, item, receive}
 
 -- the rule that decided, the numbers of a message, the bytes taken and the bytes held
 pub data Numbers : Type 0 where

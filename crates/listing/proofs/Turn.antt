@@ -13,7 +13,7 @@ use Rattle.line.specs.Receiving as spec
 use Rattle.line.specs.declared.Answer.the-variants.{One}
 use Rattle.line.specs.declared.receiving.Received.{Received}
 use Rattle.line.proofs.Laws.{item-removes, message-short}
-use Rattle.listing.specs.Text.{lenOf}
+use Rattle.listing.specs.Text.{decimalLimit, lenOf}
 
 module _ (r : Received) (held new exit : List ℕ) (p : Receives r held new exit) (i : Item) (told : r .answer ≡ One i) where
   said : spec.receive held new .answer ≡ item (itemOf i)
@@ -22,14 +22,14 @@ module _ (r : Received) (held new exit : List ℕ) (p : Receives r held new exit
   pub removes : (r .taken ≤ length new) × (r .count + 2 ≤ length held + r .taken)
   removes = let w = item-removes held new said in omega (arith, p .takes, p .counts, w .within, w .fewer)
 
-short-by : (held new : List ℕ) (i : Item) → spec.receive held new .answer ≡ item (itemOf i) → lenOf (itemOf i) < 1000
+short-by : (held new : List ℕ) (i : Item) → spec.receive held new .answer ≡ item (itemOf i) → lenOf (itemOf i) < decimalLimit
 short-by held new DamagedHeader h = omega arith
 short-by held new Forbidden h = omega arith
 short-by held new DamagedPayload h = omega arith
 short-by held new (Message t q len) h = omega (arith, message-short held new h)
 
 pub short : (r : Received) (held new exit : List ℕ) → Receives r held new exit → (i : Item) → r .answer ≡ One i
-    → lenOf (itemOf i) < 1000
+    → lenOf (itemOf i) < decimalLimit
 short r held new exit p i told = short-by held new i (said r held new exit p i told)
 
 -- the held bytes are at most as many as were counted

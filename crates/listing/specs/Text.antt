@@ -10,7 +10,11 @@ use Rattle.message.specs.Items.{Item, damagedHeader, forbidden, damagedPayload,
 abbrev pub digit : ℕ → ℕ
 digit n = 0x30 + n
 
--- "numbers in decimal": of a number below 1,000, which every SEQ, LEN and held count is
+-- every SEQ, LEN and held count is below this
+abbrev pub decimalLimit : ℕ
+decimalLimit = 1000
+
+-- "numbers in decimal", of a number below that limit
 unfoldable pub decimal : ℕ → List ℕ
 decimal n =
     if (ltb n 10) (digit n ∷ [])
@@ -35,6 +39,10 @@ lineOf (message type seq len) = word type ++ (decimal seq ++ (0x20 ∷ (decimal 
 -- "then `end` and the held count"
 unfoldable pub endOf : ℕ → List ℕ
 endOf held = 0x65 ∷ 0x6E ∷ 0x64 ∷ 0x20 ∷ (decimal held ++ (0x0A ∷ []))
+
+-- room that a line is given, its end included; the longest has 12 bytes
+abbrev pub lineRoom : ℕ
+lineRoom = 16
 
 -- the LEN that an item names
 abbrev pub lenOf : Item → ℕ

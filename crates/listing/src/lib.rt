@@ -5,6 +5,7 @@ mod sheet; // lines to standard output, many at a time
 ghost use Prim.Native.Nat.{_≤_};
 ghost use lib.ListN.{length};
 ghost use Rattle.line.specs.Receiving.{heldMax};
+ghost use Rattle.listing.specs.Text.{lineRoom};
 use crate::sheet::add_line;
 use crate::sheet::end_sheet;
 use libc::STDERR_FILENO;
@@ -43,7 +44,7 @@ pub fn list_standard_input() {
 // Reads until the input ends or something fails. A proved loop has to end, and nothing says that an input does: so it counts down
 // from a number that no run uses up.
 fn list_all(held: &mut [u8; HELD_MAX], out: &mut [u8]) -> Listing
-    requires { ⌜ 16 ≤ length (now out) ⌝ }
+    requires { ⌜ lineRoom ≤ length (now out) ⌝ }
     ensures { λ r. ⌜ (r .count ≤ heldMax) × (r .used ≤ length (now (out .exit))) ⌝ }
 {
     let mut count = 0;
@@ -68,7 +69,7 @@ fn list_all(held: &mut [u8; HELD_MAX], out: &mut [u8]) -> Listing
 
 // Reads once, and lists what came.
 fn list_some(held: &mut [u8; HELD_MAX], count: usize, out: &mut [u8], used: usize) -> Listing
-    requires { ⌜ (count ≤ heldMax) × (used ≤ length (now out)) × (16 ≤ length (now out)) ⌝ }
+    requires { ⌜ (count ≤ heldMax) × (used ≤ length (now out)) × (lineRoom ≤ length (now out)) ⌝ }
     ensures { λ r. ⌜ (r .count ≤ heldMax) × (r .used ≤ length (now (out .exit))) ⌝ }
 {
     let mut piece = io::large_buffer();
@@ -99,7 +100,7 @@ fn list_piece(
     used: usize,
     piece: &[u8],
 ) -> Listing
-    requires { ⌜ (count ≤ heldMax) × (used ≤ length (now out)) × (16 ≤ length (now out)) ⌝ }
+    requires { ⌜ (count ≤ heldMax) × (used ≤ length (now out)) × (lineRoom ≤ length (now out)) ⌝ }
     ensures { λ r. ⌜ (r .count ≤ heldMax) × (r .used ≤ length (now (out .exit))) ⌝ }
 {
     let mut rest = piece;
@@ -132,7 +133,7 @@ fn list_piece(
 
 // The last lines, or what failed.
 fn finish(out: &mut [u8], listing: Listing)
-    requires { ⌜ (16 ≤ length (now out)) × (listing .count ≤ heldMax) × (listing .used ≤ length (now out)) ⌝ }
+    requires { ⌜ (lineRoom ≤ length (now out)) × (listing .count ≤ heldMax) × (listing .used ≤ length (now out)) ⌝ }
 {
     let next = listing.next;
     match next {

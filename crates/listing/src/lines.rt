@@ -4,18 +4,18 @@ ghost use mathlib.Core.List.{_∷_, [], _++_};
 ghost use Prim.Native.Nat.{_+_, _≤_, _<_};
 ghost use lib.ListN.{length, take};
 ghost use Rattle.message.specs.Promises.{itemOf};
-ghost use Rattle.listing.specs.Text.{digit as glyph, decimal, word, lineOf, endOf, lenOf};
+ghost use Rattle.listing.specs.Text.{digit as glyph, decimalLimit, decimal, word, lineOf, endOf, lineRoom, lenOf};
 use message::header::ACK;
 use message::header::DATA_SEQ;
 use message::header::NAK;
 use message::reader::Item;
 
-// The most bytes of a line, its end included.
-pub(crate) const LINE_MAX: usize = 16;
+// Room for a line, its end included, in bytes.
+pub(crate) const LINE_ROOM: usize = 16;
 
 // The line of an item, behind the first `at` bytes. Answers where it ends.
 pub(crate) fn put_line(out: &mut [u8], at: usize, item: Item) -> usize
-    requires { ⌜ (at + 16 ≤ length (now out)) × (lenOf (itemOf item) < 1000) ⌝ }
+    requires { ⌜ (at + lineRoom ≤ length (now out)) × (lenOf (itemOf item) < decimalLimit) ⌝ }
     ensures { λ r. ⌜ (r ≤ length (now (out .exit)))
         × (take r (now (out .exit)) ≡ take at (now (out .entry)) ++ lineOf (itemOf item)) ⌝ }
 {
@@ -28,7 +28,7 @@ pub(crate) fn put_line(out: &mut [u8], at: usize, item: Item) -> usize
 }
 
 fn put_message(out: &mut [u8], at: usize, kind: u8, seq: u8, len: usize) -> usize
-    requires { ⌜ (at + 16 ≤ length (now out)) × (len < 1000) ⌝ }
+    requires { ⌜ (at + lineRoom ≤ length (now out)) × (len < decimalLimit) ⌝ }
     ensures { λ r. ⌜ (r ≤ length (now (out .exit)))
         × (take r (now (out .exit)) ≡ take at (now (out .entry)) ++ (word kind ++ (decimal seq ++ (0x20 ∷ (decimal len ++ (0x0A ∷ [])))))) ⌝ }
 {
@@ -41,7 +41,7 @@ fn put_message(out: &mut [u8], at: usize, kind: u8, seq: u8, len: usize) -> usiz
 
 // The last line: `end` and the held count.
 pub(crate) fn put_end(out: &mut [u8], at: usize, held: usize) -> usize
-    requires { ⌜ (at + 16 ≤ length (now out)) × (held < 1000) ⌝ }
+    requires { ⌜ (at + lineRoom ≤ length (now out)) × (held < decimalLimit) ⌝ }
     ensures { λ r. ⌜ (r ≤ length (now (out .exit))) × (take r (now (out .exit)) ≡ take at (now (out .entry)) ++ endOf held) ⌝ }
 {
     let named = put(out, at, b"end ");
@@ -66,7 +66,7 @@ fn put_word(out: &mut [u8], at: usize, kind: u8) -> usize
 }
 
 fn put_decimal(out: &mut [u8], at: usize, n: usize) -> usize
-    requires { ⌜ (at + 3 ≤ length (now out)) × (n < 1000) ⌝ }
+    requires { ⌜ (at + 3 ≤ length (now out)) × (n < decimalLimit) ⌝ }
     ensures { λ r. ⌜ (r ≤ at + 3) × (take r (now (out .exit)) ≡ take at (now (out .entry)) ++ decimal n) ⌝ }
 {
     if n < 10 {

@@ -2,8 +2,8 @@
 ghost use Prim.Native.Nat.{_≤_, _<_};
 ghost use lib.ListN.{length};
 ghost use Rattle.message.specs.Promises.{itemOf};
-ghost use Rattle.listing.specs.Text.{lenOf};
-use crate::lines::LINE_MAX;
+ghost use Rattle.listing.specs.Text.{decimalLimit, lineRoom, lenOf};
+use crate::lines::LINE_ROOM;
 use crate::lines::put_end;
 use crate::lines::put_line;
 use libc::STDOUT_FILENO;
@@ -17,10 +17,10 @@ pub(crate) struct Sheet {
 
 // The line of an item joins those that wait.
 pub(crate) fn add_line(out: &mut [u8], used: usize, item: Item) -> Sheet
-    requires { ⌜ (used ≤ length (now out)) × (16 ≤ length (now out)) × (lenOf (itemOf item) < 1000) ⌝ }
+    requires { ⌜ (used ≤ length (now out)) × (lineRoom ≤ length (now out)) × (lenOf (itemOf item) < decimalLimit) ⌝ }
     ensures { λ r. ⌜ r .used ≤ length (now (out .exit)) ⌝ }
 {
-    if out.len() - used < LINE_MAX {
+    if out.len() - used < LINE_ROOM {
         if !io::write_all(STDOUT_FILENO, &out[..used]) {
             return Sheet {
                 used: 0,
@@ -36,7 +36,7 @@ pub(crate) fn add_line(out: &mut [u8], used: usize, item: Item) -> Sheet
 
 // All lines that wait are written, and the last one behind them. Answers whether every write was taken whole.
 pub(crate) fn end_sheet(out: &mut [u8], used: usize, held: usize) -> bool
-    requires { ⌜ (used ≤ length (now out)) × (16 ≤ length (now out)) × (held < 1000) ⌝ }
+    requires { ⌜ (used ≤ length (now out)) × (lineRoom ≤ length (now out)) × (held < decimalLimit) ⌝ }
 {
     if !io::write_all(STDOUT_FILENO, &out[..used]) {
         return false;

@@ -5,12 +5,13 @@ use native.Mathlib.Omega.{arith}
 use lib.ListN.{length}
 use borrow.Author.Needs.{needs}
 use Rattle.line.specs.Receiving.{heldMax}
+use Rattle.listing.specs.Text.{lineRoom}
 use Rattle.listing.proofs.list_all.Statement.{statement}
 use Rattle.listing.proofs.list_all.Tie as tie
 
 abbrev Inv-loop : tie.InvT-loop
 Inv-loop held₀ out₀ count₀ used₀ turns₀ held out count used turns =
-    (count ≤ heldMax) × (used ≤ length out) × (16 ≤ length out) × (length out ≡ length out₀)
+    (count ≤ heldMax) × (used ≤ length out) × (lineRoom ≤ length out) × (length out ≡ length out₀)
 
 abbrev μ-loop : tie.MeasureT-loop
 μ-loop held₀ out₀ count₀ used₀ turns₀ held out count used turns = turns

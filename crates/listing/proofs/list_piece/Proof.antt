@@ -5,13 +5,14 @@ use native.Mathlib.Omega.{arith}
 use lib.ListN.{length, length-take, length-drop}
 use borrow.Author.Needs.{needs}
 use Rattle.line.specs.Receiving.{heldMax}
+use Rattle.listing.specs.Text.{lineRoom}
 use Rattle.listing.proofs.Turn.{removes, short, counted}
 use Rattle.listing.proofs.list_piece.Statement.{statement}
 use Rattle.listing.proofs.list_piece.Tie as tie
 
 abbrev Inv-loop : tie.InvT-loop
 Inv-loop held₀ count out₀ used piece rest₀ count₀ used₀ held out rest count' used' =
-    (count' ≤ heldMax) × (used' ≤ length out) × (16 ≤ length out) × (length out ≡ length out₀)
+    (count' ≤ heldMax) × (used' ≤ length out) × (lineRoom ≤ length out) × (length out ≡ length out₀)
 
 abbrev μ-loop : tie.MeasureT-loop
 μ-loop held₀ count out₀ used piece rest₀ count₀ used₀ held out rest count' used' = count' + length rest
