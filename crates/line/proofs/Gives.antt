@@ -120,23 +120,16 @@ module _ (i : Item) (n r k : ℕ) (new : List ℕ) (h : scan new ≡ decided (it
   follows = take (k - (n + r)) (drop (n + r) new)
 
   -- where the bytes that decide it end
-  pub record Ends : Type 0 where
-    pub start : n + r ≤ k
-    pub header : n + headerLength ≤ k
-    pub within : k ≤ length new
-    pub small : k ≤ n + r + heldMax
-
-  pub ends : Ends
+  pub ends : (k ≡ taken [] new) × (n + r ≤ k) × (n + headerLength ≤ k) × (k ≤ length new) × (k ≤ n + r + heldMax)
   ends =
       let b = reached new h in
-      let t = taken-new new h in
-      let two = scan-within new h in
-      record {
-        start = omega (arith, b .removed);
-        header = omega (arith, b .header);
-        within = omega (arith, reach-within new h);
-        small = omega (arith, b .longest);
-      }
+      let t = taken-new new h in (
+        last,
+        omega (arith, b .removed),
+        omega (arith, b .header),
+        omega (arith, reach-within new h),
+        omega (arith, b .longest, scan-within new h),
+      )
 
   pub gives-new : (d : Decision) (array : List ℕ)
       → (d .answer ≡ One i) × (d .taken ≡ k) × (d .start ≡ 0) × (d .count ≡ length follows) × (d .payload ≡ New (n + headerLength))
@@ -144,11 +137,11 @@ module _ (i : Item) (n r k : ℕ) (new : List ℕ) (h : scan new ≡ decided (it
   gives-new d array said stands =
       let e = ends in
       let t = at-new new k h (last ∙ taken-new new h) in
-      let sum : n + r + (k - (n + r)) ≡ k = omega (arith, e .start) in
+      let sum : n + r + (k - (n + r)) ≡ k = omega (arith, e) in
       let rest : drop (n + r) (take k new) ≡ follows = rw sum at (drop-take (n + r) (k - (n + r)) new) in
       let size : length follows ≤ k - (n + r) = rw (length-take (k - (n + r)) (drop (n + r) new)) (omega arith) in
       record {
         gives =
             rw (said .0, said .1, said .2, said .3, said .4, t .0, stands, payload-new i n r k new array (t .1), t .1, rest);
-        within = omega (arith, said .2, said .3, e .small);
+        within = omega (arith, said .2, said .3, e);
       }

@@ -151,7 +151,8 @@ fn item_in_new(array: &mut [u8], item: Item, dropped: usize, removed: usize, new
 // How many bytes decided the item: those of its header, or of the whole message.
 fn deciding_length(item: Item, dropped: usize, removed: usize, new: &[u8]) -> usize
     requires { ⌜ scan (now new) ≡ decided (itemOf item) dropped removed ⌝ }
-    ensures { λ r. ⌜ r ≡ taken [] (now (new .entry)) ⌝ }
+    ensures { λ r. ⌜ (r ≡ taken [] (now (new .entry))) × (dropped + removed ≤ r) × (dropped + headerLength ≤ r)
+        × (r ≤ length (now (new .entry))) × (r ≤ dropped + removed + heldMax) ⌝ }
 {
     match item {
         Item::DamagedHeader => dropped + HEADER_LENGTH,

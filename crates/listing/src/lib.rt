@@ -29,7 +29,8 @@ enum Next {
     WriteFailed,
 }
 
-// Lists standard input on standard output. Where a read or a write fails, standard error says so and `end` is not printed.
+// Lists standard input on standard output. Where a read or a write fails, standard error says so and `end` is not printed. No
+// contract can say what a program reads or writes: that much is tested.
 pub fn list_standard_input() {
     let mut held = [0; HELD_MAX];
     let mut out = io::buffer();

@@ -1,4 +1,5 @@
 -- `line::decision::deciding_length` meets its contract: of each item, the bytes that decide it.
+use Prim.Native.Nat.{_+_}
 use mathlib.Core.Path.{sym}
 use native.Mathlib.Omega.{arith}
 use lib.ListN.{length-drop}
@@ -6,6 +7,7 @@ use borrow.Author.Needs.{needs}
 use denote.Ref.{now}
 use Rattle.message.proofs.Buffer.{tail}
 use Rattle.message.proofs.Found.{scan-within, message-at}
+use Rattle.line.proofs.Gives.{ends}
 use Rattle.line.proofs.Reach.{reach-within}
 use Rattle.line.proofs.Taking.{taken-new}
 use Rattle.line.proofs.decision.deciding_length.Statement.{statement}
@@ -68,28 +70,34 @@ add-result-4 c = let a =
 
 returns : tie.Need-returns
 returns c =
-    let a = c .before .before .before .args in
-    let h = rw (c .enum-told .given .1) at (c .before .before .before .pre) in
-    sym (taken-new (now (a .new)) h)
+    let start = c .before .before .before in
+    let a = start .args in
+    let h = rw (c .enum-told .given .1) at (start .pre) in
+    ends (a .item) (a .dropped) (a .removed) _ (now (a .new)) (start .pre) (sym (taken-new (now (a .new)) h))
 
 returns-2 : tie.Need-returns-2
 returns-2 c =
-    let a = c .before .before .before .args in
-    let h = rw (c .enum-told2 .given .1) at (c .before .before .before .pre) in
-    sym (taken-new (now (a .new)) h)
+    let start = c .before .before .before in
+    let a = start .args in
+    let h = rw (c .enum-told2 .given .1) at (start .pre) in
+    ends (a .item) (a .dropped) (a .removed) _ (now (a .new)) (start .pre) (sym (taken-new (now (a .new)) h))
 
 returns-3 : tie.Need-returns-3
 returns-3 c =
-    let a = c .before .before .before .before .before .before .args in
-    let h = rw (c .before .before .before .enum-told3 .given .1) at (c .before .before .before .before .before .before .pre) in
+    let start = c .before .before .before .before .before .before in
+    let a = start .args in
+    let h = rw (c .before .before .before .enum-told3 .given .1) at (start .pre) in
     let len = rw (tail (a .dropped) (now (a .new))) at (c .before .len-in .ensures .0) in
-    omega (arith, taken-new (now (a .new)) h, c .total-length .ensures, len)
+    ends (a .item) (a .dropped) (a .removed) (a .dropped + c .total-length .result) (now (a .new)) (start .pre)
+    (omega (arith, taken-new (now (a .new)) h, c .total-length .ensures, len))
 
 returns-4 : tie.Need-returns-4
 returns-4 c =
-    let a = c .before .before .before .args in
-    let h = rw (c .enum-told4 .given .1) at (c .before .before .before .pre) in
-    omega (arith, taken-new (now (a .new)) h, message-at (now (a .new)) h .removed)
+    let start = c .before .before .before in
+    let a = start .args in
+    let h = rw (c .enum-told4 .given .1) at (start .pre) in
+    ends (a .item) (a .dropped) (a .removed) (a .dropped + a .removed) (now (a .new)) (start .pre)
+    (omega (arith, taken-new (now (a .new)) h, message-at (now (a .new)) h .removed))
 
 pub deciding-length-spec : {M : Type 1} → statement M
 deciding-length-spec =

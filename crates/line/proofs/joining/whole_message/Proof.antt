@@ -84,7 +84,7 @@ returns-2 c =
     let left = c .before .before .before .before .before .before .append-behind-syn .ensures in
     let same = compared (a .kept) held (now (a .new)) size (p .2) (p .3) (a .need) whole (p .6) (now (a .array)) _ left _ (p .4) in
     gives-damaged (a .kept) held (now (a .new)) size (p .2) (p .3) (a .need) whole (p .6) (now (a .array)) _ left _
-    (sym same ∙ sym (c .before .payload-is-sound .ensures) ∙ c .if1 .left) (refl, refl, refl, refl)
+    (sym same ∙ sym (c .before .payload-is-sound .ensures) ∙ c .if1 .left) (refl, refl, refl, omega arith)
 
 pub whole-message-spec : {M : Type 1} → statement M
 whole-message-spec =
