@@ -1,16 +1,16 @@
 -- What is held is within the limit, and every byte that is taken is dropped, removed or held.
 use Prim.Native.Nat.{ℕ, zero, suc, _+_, _≤_, _<_}
 use mathlib.Core.Bool.{Bool, true, false, true≢false}
-use mathlib.Core.List.{List, _++_, append-assoc}
+use mathlib.Core.List.{List, _++_, append-assoc, append-nil}
 use mathlib.Core.Path.{_≡_, refl, sym, ap, _∙_}
 use native.Mathlib.Omega.{arith}
 use lib.Dec.{leb}
 use lib.ListN.{length, take, drop, length-append, length-drop, take-append-drop}
-use lib.Seq.{take-add, length-take-le}
+use lib.Seq.{take-add, length-take-le, take-length}
 use borrow.Author.Tests.{leb-true, leb-false}
 use Rattle.message.specs.Items.{Item, Scan, undecided, decided, scan}
 use Rattle.message.proofs.Found.{scan-within}
-use Rattle.line.specs.Cuts.{handed, gone, goneIn, Accounted}
+use Rattle.line.specs.Cuts.{handedIn, handed, gone, goneIn, wentIn, went}
 use Rattle.line.specs.Receiving.{heldMax, decides, taken, left, receive}
 use Rattle.line.proofs.Gives.{undecided-left}
 use Rattle.line.proofs.Got.{Got, got-more, got-item, got}
@@ -66,42 +66,40 @@ accounted-by : (s : Scan) (xs : List ℕ) → xs ≡ take (gone s) xs ++ left s 
 accounted-by (undecided d) xs = sym (take-append-drop d xs)
 accounted-by (decided i d r) xs = sym (take-append-drop (d + r) xs)
 
-pub receive-accounts : (held new : List ℕ)
-    → held ++ take (receive held new .taken) new
-    ≡ take (goneIn held new) (held ++ take (receive held new .taken) new) ++ receive held new .held
+pub receive-accounts : (held new : List ℕ) → held ++ take (receive held new .taken) new ≡ goneIn held new ++ receive held new .held
 unfolding receive
 receive-accounts held new = accounted-by (scan (held ++ take (taken held new) new)) (held ++ take (taken held new) new)
 
--- the same until *more*: what is held in the end is the end of all that was handed in
+-- the same until *more*
 all-split : (held piece : List ℕ) (t : ℕ) → (held ++ take t piece) ++ drop t piece ≡ held ++ piece
 all-split held piece t =
     append-assoc held (take t piece) (drop t piece) ∙ ap (λ (l : List ℕ). held ++ l) (take-append-drop t piece)
 
-module _ (n : ℕ) (again : (held piece : List ℕ) → size held piece < n → Accounted held piece) where
-  accounts-by : (held piece : List ℕ) → Got held piece → size held piece < suc n → Accounted held piece
-  accounts-by held piece (got-more {e} h got-it) few = record {
-    went = take e (held ++ piece);
-    all = rw (handed-step held piece, got-it, h) (sym (take-append-drop e (held ++ piece)));
-  }
+module _ (n : ℕ) (again : (held piece : List ℕ) → size held piece < n
+    → held ++ piece ≡ wentIn n held piece ++ handedIn n held piece .held) where
+  accounts-by : (held piece : List ℕ) → Got held piece → size held piece < suc n
+      → held ++ piece ≡ wentIn (suc n) held piece ++ handedIn (suc n) held piece .held
+  unfolding wentIn handedIn
+  accounts-by held piece (got-more {e} h got-it) few =
+      rw (got-it, take-length piece, h, append-nil (take e (held ++ piece))) (sym (take-append-drop e (held ++ piece)))
   accounts-by held piece (got-item {i} {d} {r} t within h none got-it) few =
+      let looked = held ++ take t piece in
       let shrinks = item-shrinks held piece t within h in
-      let rest = again (drop (d + r) (held ++ take t piece)) (drop t piece) (omega arith) in
-      record {
-        went = take (d + r) (held ++ take t piece) ++ rest .went;
-        all =
-            rw (handed-step held piece, got-it, h)
-            (sym (all-split held piece t)
-            ∙ ap (λ (l : List ℕ). l ++ drop t piece) (sym (take-append-drop (d + r) (held ++ take t piece)))
-            ∙ append-assoc (take (d + r) (held ++ take t piece)) (drop (d + r) (held ++ take t piece)) (drop t piece)
-            ∙ ap (λ (l : List ℕ). take (d + r) (held ++ take t piece) ++ l) (rest .all)
-            ∙ sym (append-assoc (take (d + r) (held ++ take t piece)) (rest .went) _));
-      }
+      let rest = again (drop (d + r) looked) (drop t piece) (omega arith) in
+      rw (got-it, h)
+      (sym (all-split held piece t)
+      ∙ ap (λ (l : List ℕ). l ++ drop t piece) (sym (take-append-drop (d + r) looked))
+      ∙ append-assoc (take (d + r) looked) (drop (d + r) looked) (drop t piece)
+      ∙ ap (λ (l : List ℕ). take (d + r) looked ++ l) rest
+      ∙ sym (append-assoc (take (d + r) looked) (wentIn n (drop (d + r) looked) (drop t piece)) _))
 
-accounts-within : (n : ℕ) (held piece : List ℕ) → size held piece < n → Accounted held piece
+accounts-within : (n : ℕ) (held piece : List ℕ) → size held piece < n
+    → held ++ piece ≡ wentIn n held piece ++ handedIn n held piece .held
 accounts-within zero held piece few = absurd (omega arith)
 accounts-within (suc n) held piece few = accounts-by n (accounts-within n) held piece (got held piece) few
 
-pub handed-accounts : (held piece : List ℕ) → Accounted held piece
+pub handed-accounts : (held piece : List ℕ) → held ++ piece ≡ went held piece ++ handed held piece .held
+unfolding went handed
 handed-accounts held piece = accounts-within (suc (size held piece)) held piece (omega arith)
 
 -- and that is within the limit

@@ -7,7 +7,7 @@ use mathlib.Core.Path.{_≡_}
 use lib.ListN.{length, take, drop}
 use Rattle.message.specs.Bytes.{maxLen}
 use Rattle.message.specs.Items.{message, scan}
-use Rattle.line.specs.Cuts.{found, before, handed, handedEach, joined, goneIn, Accounted}
+use Rattle.line.specs.Cuts.{found, before, handed, handedEach, joined, goneIn, went}
 use Rattle.line.specs.Receiving.{heldMax, decides, more, item, answered, receive}
 use Rattle.line.proofs.Bounds as bounds
 use Rattle.line.proofs.Got.{Removes}
@@ -61,11 +61,9 @@ receive-bounded = bounds.receive-bounded
 pub handed-bounded : (held piece : List ℕ) → length held ≤ heldMax → length (handed held piece .held) ≤ heldMax
 handed-bounded = bounds.handed-bounded
 
--- every byte that a call has taken is dropped, removed or held, and so is every byte that was handed in
-pub receive-accounts : (held new : List ℕ)
-    → held ++ take (receive held new .taken) new
-    ≡ take (goneIn held new) (held ++ take (receive held new .taken) new) ++ receive held new .held
+-- every byte that a call looks at is dropped, removed or held, and so is every byte that was handed in, in order
+pub receive-accounts : (held new : List ℕ) → held ++ take (receive held new .taken) new ≡ goneIn held new ++ receive held new .held
 receive-accounts = bounds.receive-accounts
 
-pub handed-accounts : (held piece : List ℕ) → Accounted held piece
+pub handed-accounts : (held piece : List ℕ) → held ++ piece ≡ went held piece ++ handed held piece .held
 handed-accounts = bounds.handed-accounts

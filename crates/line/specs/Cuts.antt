@@ -2,7 +2,6 @@
 -- receive answers *more*".
 use Prim.Native.Nat.{ℕ, zero, suc, _+_}
 use mathlib.Core.List.{List, [], _∷_, _++_}
-use mathlib.Core.Path.{_≡_}
 use lib.ListN.{length, take, drop}
 use Rattle.message.specs.Items.{Item, Scan, undecided, decided, scan}
 use Rattle.line.specs.Receiving.{Answer, more, item, receive}
@@ -52,11 +51,20 @@ abbrev pub gone : Scan → ℕ
 gone (undecided d) = d
 gone (decided i d r) = d + r
 
--- the same in a call, of the bytes that it looks at
-abbrev pub goneIn : (held new : List ℕ) → ℕ
-goneIn held new = gone (scan (held ++ take (receive held new .taken) new))
+-- the bytes that go in a call, dropped ones before removed ones
+abbrev pub goneIn : (held new : List ℕ) → List ℕ
+goneIn held new = let looked = held ++ take (receive held new .taken) new in take (gone (scan looked)) looked
 
--- all that was handed in: what went, in order, then what is held in the end
-pub record Accounted (held piece : List ℕ) : Type 0 where
-  pub went : List ℕ
-  pub all : held ++ piece ≡ went ++ handed held piece .held
+-- what goes after an answer: with *more* nothing is handed in again
+abbrev pub onItem : Answer → (next : List ℕ) → List ℕ
+onItem more next = []
+onItem (item i) next = next
+
+-- the bytes that go while a piece is handed in, its untaken rest again, until *more*, in order
+unfoldable pub wentIn : (times : ℕ) (held piece : List ℕ) → List ℕ
+wentIn zero held piece = []
+wentIn (suc n) held piece =
+    let r = receive held piece in goneIn held piece ++ onItem (r .answer) (wentIn n (r .held) (drop (r .taken) piece))
+
+unfoldable pub went : (held piece : List ℕ) → List ℕ
+went held piece = wentIn (suc (length held + length piece)) held piece
