@@ -1,4 +1,4 @@
--- What a call got, in two cases, with the bytes it looked at; and what it would get of more bytes.
+-- What a call got, in two cases with the bytes that it looked at, and what holds of every call by them.
 use Prim.Native.Nat.{ℕ, _+_, _≤_, _<_}
 use mathlib.Core.Bool.{Bool, true, false, true≢false}
 use mathlib.Core.List.{List, _++_, append-assoc}

@@ -66,5 +66,6 @@ wentIn zero held piece = []
 wentIn (suc n) held piece =
     let r = receive held piece in goneIn held piece ++ onItem (r .answer) (wentIn n (r .held) (drop (r .taken) piece))
 
+-- the same until *more*
 unfoldable pub went : (held piece : List ℕ) → List ℕ
 went held piece = wentIn (suc (length held + length piece)) held piece

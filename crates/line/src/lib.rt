@@ -7,7 +7,7 @@ mod store; // bytes moved within the lent array
 
 use message::reader::Item;
 
-// The most bytes that are held between calls.
+// The most bytes that are held between calls ("At most 265 bytes are held").
 pub const HELD_MAX: usize = 265;
 
 // The item that a call decided, or that it wants more bytes.

@@ -7,7 +7,8 @@ use lib.ListN.{length, take, set}
 use lib.Seq.{take-suc-set}
 use borrow.Author.Tests.{lt-ltb, le-ltb, eq-eqb, ne-eqb}
 use Rattle.message.specs.Bytes.{ack, nak, dataSeq}
-use Rattle.listing.specs.Text.{digit, decimal, word, endOf}
+use Rattle.message.specs.Items.{message}
+use Rattle.listing.specs.Text.{ascii, digit, decimal, word, lineOf, endOf}
 
 -- what was put first, then what was put behind it
 pub behind : (first m n : List ℕ) {x y : List ℕ} → x ≡ first ++ m → y ≡ x ++ n → y ≡ first ++ (m ++ n)
@@ -40,30 +41,29 @@ module _ (n : ℕ) (first : List ℕ) where
 
 -- the word of each TYPE
 module _ (type : ℕ) where
-  pub word-ack : type ≡ ack → word type ≡ 0x41 ∷ 0x43 ∷ 0x4B ∷ 0x20 ∷ []
+  pub word-ack : type ≡ ack → word type ≡ ascii "ACK "
   unfolding word
   word-ack is = rw (eq-eqb type ack is)
 
-  pub word-nak : (type ≡ ack → ⊥) → type ≡ nak → word type ≡ 0x4E ∷ 0x41 ∷ 0x4B ∷ 0x20 ∷ []
+  pub word-nak : (type ≡ ack → ⊥) → type ≡ nak → word type ≡ ascii "NAK "
   unfolding word
   word-nak other is = rw (ne-eqb type ack other, eq-eqb type nak is)
 
-  pub word-seq : (type ≡ ack → ⊥) → (type ≡ nak → ⊥) → type ≡ dataSeq → word type ≡ 0x53 ∷ 0x45 ∷ 0x51 ∷ 0x20 ∷ []
+  pub word-seq : (type ≡ ack → ⊥) → (type ≡ nak → ⊥) → type ≡ dataSeq → word type ≡ ascii "SEQ "
   unfolding word
   word-seq other third is = rw (ne-eqb type ack other, ne-eqb type nak third, eq-eqb type dataSeq is)
 
-  pub word-nsq : (type ≡ ack → ⊥) → (type ≡ nak → ⊥) → (type ≡ dataSeq → ⊥) → word type ≡ 0x4E ∷ 0x53 ∷ 0x51 ∷ 0x20 ∷ []
+  pub word-nsq : (type ≡ ack → ⊥) → (type ≡ nak → ⊥) → (type ≡ dataSeq → ⊥) → word type ≡ ascii "NSQ "
   unfolding word
   word-nsq other third fourth = rw (ne-eqb type ack other, ne-eqb type nak third, ne-eqb type dataSeq fourth)
 
 -- the lines made of several parts
 pub message-line : (first : List ℕ) (type seq len : ℕ) {a b c d e : List ℕ} → a ≡ first ++ word type → b ≡ a ++ decimal seq
-    → c ≡ b ++ (0x20 ∷ []) → d ≡ c ++ decimal len → e ≡ d ++ (0x0A ∷ [])
-    → e ≡ first ++ (word type ++ (decimal seq ++ (0x20 ∷ (decimal len ++ (0x0A ∷ [])))))
-message-line first type seq len one two three four five =
-    rw (five, four, three, two, one) (simp append-assoc)
+    → c ≡ b ++ ascii " " → d ≡ c ++ decimal len → e ≡ d ++ ascii "\n" → e ≡ first ++ lineOf (message type seq len)
+unfolding lineOf
+message-line first type seq len one two three four five = rw (five, four, three, two, one) (simp append-assoc)
 
-pub end-line : (first : List ℕ) (held : ℕ) {a b c : List ℕ} → a ≡ first ++ (0x65 ∷ 0x6E ∷ 0x64 ∷ 0x20 ∷ []) → b ≡ a ++ decimal held
-    → c ≡ b ++ (0x0A ∷ []) → c ≡ first ++ endOf held
+pub end-line : (first : List ℕ) (held : ℕ) {a b c : List ℕ} → a ≡ first ++ ascii "end " → b ≡ a ++ decimal held
+    → c ≡ b ++ ascii "\n" → c ≡ first ++ endOf held
 unfolding endOf
 end-line first held one two three = rw (three, two, one) (simp append-assoc)

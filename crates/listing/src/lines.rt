@@ -3,6 +3,7 @@ ghost use mathlib.Core.Path.{_≡_};
 ghost use mathlib.Core.List.{_∷_, [], _++_};
 ghost use Prim.Native.Nat.{_+_, _≤_, _<_};
 ghost use lib.ListN.{length, take};
+ghost use Rattle.message.specs.Items.{message as frame};
 ghost use Rattle.message.specs.Promises.{itemOf};
 ghost use Rattle.listing.specs.Text.{digit as glyph, decimalLimit, decimal, word, lineOf, endOf, lineRoom, lenOf};
 use message::header::ACK;
@@ -30,7 +31,7 @@ pub(crate) fn put_line(out: &mut [u8], at: usize, item: Item) -> usize
 fn put_message(out: &mut [u8], at: usize, kind: u8, seq: u8, len: usize) -> usize
     requires { ⌜ (at + lineRoom ≤ length (now out)) × (len < decimalLimit) ⌝ }
     ensures { λ r. ⌜ (r ≤ length (now (out .exit)))
-        × (take r (now (out .exit)) ≡ take at (now (out .entry)) ++ (word kind ++ (decimal seq ++ (0x20 ∷ (decimal len ++ (0x0A ∷ [])))))) ⌝ }
+        × (take r (now (out .exit)) ≡ take at (now (out .entry)) ++ lineOf (frame kind seq len)) ⌝ }
 {
     let named = put_word(out, at, kind);
     let first = put_decimal(out, named, seq as usize);

@@ -44,35 +44,27 @@ same-length c = search needs
 
 returns : tie.Need-returns
 unfolding lineOf
-returns c = let p =
-    c .before .before .put .ensures in
-    (omega (arith, p .0), rw (c .before .before .before .before .before .enum-told .given .1) (p .1))
+returns c = let p = c .before .before .put .ensures in (omega (arith, p .0), rw (c .before .before .before .before .before .enum-told .given .1) (p .1))
 
 same-length-2 : tie.Need-same-length-2
 same-length-2 c = search needs
 
 returns-2 : tie.Need-returns-2
 unfolding lineOf
-returns-2 c = let p =
-    c .before .before .put2 .ensures in
-    (omega (arith, p .0), rw (c .before .before .before .before .before .enum-told2 .given .1) (p .1))
+returns-2 c = let p = c .before .before .put2 .ensures in (omega (arith, p .0), rw (c .before .before .before .before .before .enum-told2 .given .1) (p .1))
 
 same-length-3 : tie.Need-same-length-3
 same-length-3 c = search needs
 
 returns-3 : tie.Need-returns-3
 unfolding lineOf
-returns-3 c = let p =
-    c .before .before .put3 .ensures in
-    (omega (arith, p .0), rw (c .before .before .before .before .before .enum-told3 .given .1) (p .1))
+returns-3 c = let p = c .before .before .put3 .ensures in (omega (arith, p .0), rw (c .before .before .before .before .before .enum-told3 .given .1) (p .1))
 
 same-length-4 : tie.Need-same-length-4
 same-length-4 c = search needs
 
 returns-4 : tie.Need-returns-4
-unfolding lineOf
-returns-4 c = let p =
-    c .before .before .put-message .ensures in (p .0, rw (c .before .before .before .before .before .item .given .1) (p .1))
+returns-4 c = let p = c .before .before .put-message .ensures in (p .0, rw (c .before .before .before .before .before .item .given .1) (p .1))
 
 pub put-line-spec : {M : Type 1} → statement M
 put-line-spec =
