@@ -1,0 +1,4 @@
+pub mod Payloads
+pub mod Matches
+pub mod Laws
+pub mod Examples

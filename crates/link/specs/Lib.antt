@@ -1,0 +1,4 @@
+pub mod SequenceIds
+pub mod Frames
+pub mod Repeats
+pub mod Promises
