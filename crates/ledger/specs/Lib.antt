@@ -1,0 +1,11 @@
+pub mod Parts
+pub mod Answers
+pub mod Submitting
+pub mod Receiving
+pub mod Polling
+pub mod Calls
+pub mod Refusals
+pub mod Runs
+pub mod Examples
+pub mod FaultRuns
+pub mod Promises

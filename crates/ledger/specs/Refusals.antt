@@ -1,0 +1,107 @@
+-- Document 01, "Refusal numbers, tested in this order", on the ledger's own state.
+use Prim.Native.Nat.{ℕ, suc, _+_}
+use mathlib.Core.Bool.{Bool, false, not, _&&_, _||_, cond as if}
+use mathlib.Core.List.{List, [], _∷_}
+use mathlib.Core.Option.{Option, none, some}
+use lib.Dec.{eqb, leb, ltb}
+use lib.ListN.{length}
+use Rattle.message.specs.Bytes.{total, maxLen}
+use Rattle.line.specs.Receiving.{heldMax}
+use Rattle.command.specs.Payload.{maxData}
+use Rattle.link.specs.Frames.{maxTransmissions}
+use Rattle.ledger.specs.Parts.{reservedMax, State, queued, inFlight, waiting, Request, Ledger}
+use Rattle.ledger.specs.Submitting.{lastId, isLive}
+use Rattle.ledger.specs.Calls.{Call, submit, receive, poll}
+
+-- whether some live request has a property
+unfoldable pub some-of : (Request → Bool) → List Request → Bool
+some-of test [] = false
+some-of test (q ∷ qs) = test q || some-of test qs
+
+-- "a live or next ID outside R + 1 to 65535"
+abbrev pub isOutside : (reserved id : ℕ) → Bool
+isOutside r id = not (leb (suc r) id && leb id lastId)
+
+-- "two equal live IDs"
+unfoldable pub twoEqual : List Request → Bool
+twoEqual [] = false
+twoEqual (q ∷ qs) = isLive (q .id) qs || twoEqual qs
+
+-- how many are in flight, for "two in flight"
+abbrev pub fliesOnce : State → ℕ
+fliesOnce queued = 0
+fliesOnce (inFlight f) = 1
+fliesOnce (waiting since) = 0
+
+unfoldable pub flights : List Request → ℕ
+flights [] = 0
+flights (q ∷ qs) = fliesOnce (q .state) + flights qs
+
+-- "transmissions not 1 to 3"
+abbrev pub wronglyOften : State → Bool
+wronglyOften queued = false
+wronglyOften (inFlight f) = not (leb 1 (f .transmissions) && leb (f .transmissions) maxTransmissions)
+wronglyOften (waiting since) = false
+
+-- "a waiting request that wants no response"
+abbrev pub waitsForNothing : (wanted : Bool) → State → Bool
+waitsForNothing wanted queued = false
+waitsForNothing wanted (inFlight f) = false
+waitsForNothing wanted (waiting since) = not wanted
+
+-- "a time later than the clock"
+abbrev pub isLate : (clock : ℕ) → State → Bool
+isLate clock queued = false
+isLate clock (inFlight f) = ltb clock (f .sent)
+isLate clock (waiting since) = ltb clock since
+
+-- "Malformed means one of", in its order, where at most `limit` requests may be live
+unfoldable pub malformed : (limit : ℕ) → Ledger → Bool
+malformed limit l =
+    ltb reservedMax (l .reserved)
+    || (ltb limit (length (l .live))
+    || ((some-of (λ q. isOutside (l .reserved) (q .id)) (l .live) || isOutside (l .reserved) (l .nextId))
+    || (twoEqual (l .live)
+    || (ltb 1 (flights (l .live))
+    || (some-of (λ q. wronglyOften (q .state)) (l .live)
+    || (some-of (λ q. ltb maxData (length (q .bytes))) (l .live)
+    || (some-of (λ q. waitsForNothing (q .wanted) (q .state)) (l .live)
+    || (some-of (λ q. isLate (l .clock) (q .state)) (l .live)
+    || ltb heldMax (length (l .held))))))))))
+
+-- a line of the table: a number, and whether its rule holds
+pub record Line : Type 0 where
+  pub number : ℕ
+  pub holds : Bool
+
+-- "tested in this order": the number of the first line whose rule holds
+unfoldable pub firstOf : List Line → Option ℕ
+firstOf [] = none
+firstOf (x ∷ xs) = if (x .holds) (some (x .number)) (firstOf xs)
+
+-- the table's lines for open
+abbrev pub openLines : (given : ℕ) → List Line
+openLines given = record { number = 3; holds = ltb reservedMax given } ∷ []
+
+-- "endpoint malformed", "clock below the last accepted reading", and the call's own lines
+unfoldable pub lines : (limit : ℕ) → Ledger → Call → List Line
+lines limit l (submit fields bytes wanted clock) =
+    record { number = 1; holds = malformed limit l }
+    ∷ record { number = 2; holds = ltb clock (l .clock) }
+    ∷ record { number = 4; holds = ltb maxData (length bytes) }
+    ∷ record { number = 5; holds = eqb (length (l .live)) limit }
+    ∷ []
+lines limit l (receive bytes reply buffer clock) =
+    record { number = 1; holds = malformed limit l }
+    ∷ record { number = 2; holds = ltb clock (l .clock) }
+    ∷ record { number = 6; holds = ltb (length reply) (total 0) || ltb (length buffer) maxData }
+    ∷ []
+lines limit l (poll output clock) =
+    record { number = 1; holds = malformed limit l }
+    ∷ record { number = 2; holds = ltb clock (l .clock) }
+    ∷ record { number = 6; holds = ltb (length output) (total maxLen) }
+    ∷ []
+
+-- the refusal of a call, if any
+abbrev pub refusal : (limit : ℕ) → Ledger → Call → Option ℕ
+refusal limit l c = firstOf (lines limit l c)
