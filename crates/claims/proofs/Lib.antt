@@ -1,0 +1,17 @@
+pub mod Cases
+pub mod Lists
+pub mod Searches
+pub mod FreeId
+pub mod Views
+pub mod Fine
+pub mod Belonging
+pub mod Owners
+pub mod Tracing
+pub mod Along
+pub mod Deadlines
+pub mod Bound
+pub mod Shown
+pub mod Refused
+pub mod Faults
+pub mod Laws
+pub mod UselessBuilds
