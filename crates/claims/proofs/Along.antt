@@ -13,11 +13,11 @@ use Rattle.ledger.specs.Calls.{Call, readingOf}
 use Rattle.ledger.specs.Refusals.{firstOf}
 use Rattle.ledger.specs.Runs.{openedBy, step, Entry, Run, start, then, run}
 use Rattle.claims.specs.Trace.{endings, frames, liveAfter, requests}
-use Rattle.claims.specs.Clauses.{All}
+use Rattle.claims.specs.Clauses.{All, Enough}
 use Rattle.claims.proofs.Cases.{by-test}
 use Rattle.claims.proofs.Lists.{all-map, all-right}
 use Rattle.claims.proofs.Views.{Change, stays, joins, leaves, turns, rests-free, rests-busy, View, refuses, accepts, view}
-use Rattle.claims.proofs.Fine.{Sound, Fine, fresh-fine, later, turned, Enough, issued-free, fine-step}
+use Rattle.claims.proofs.Fine.{Sound, Fine, fresh-fine, later, turned, issued-free, fine-step}
 use Rattle.claims.proofs.Tracing.{Told, told-calm, told-join, told-leave, told-turn}
 
 pub record Good (limit : ℕ) (s : Run) : Type 0 where
@@ -50,9 +50,11 @@ module _ (limit : ℕ) (enough : Enough limit) where
       go (rests-busy current b a q f among flying calm shows same) =
           rw same (told-calm (entryOf c d) h (l .live) (shows .asks) (shows .ends) (shows .sends) told)
       go (joins q new named short room shows same) =
-          rw same (told-join (entryOf c d) h (l .live) q new (rw named (issued-free limit enough l fine room)) (shows .asks) (shows .ends) (shows .sends) told)
+          rw same (told-join (entryOf c d) h (l .live) q new (rw named (issued-free limit enough l fine room)) (shows .asks)
+          (shows .ends) (shows .sends) told)
       go (leaves b a q x among named shows same) =
-          rw same (told-leave (entryOf c d) h b a q x (rw among at (fine .fit .distinct)) (shows .asks) (shows .ends) named (shows .sends) (rw among at told))
+          rw same (told-leave (entryOf c d) h b a q x (rw among at (fine .fit .distinct)) (shows .asks) (shows .ends) named
+          (shows .sends) (rw among at told))
       go (turns b a q s frame among turn first shows same) =
           let sound = all-right (Sound (l .reserved) (readingOf c)) b (q ∷ a) (rw among at (now-sound l fine go-on)) .0 in
           rw same (told-turn (entryOf c d) h l (readingOf c) q b a s frame (rw among at (fine .fit .distinct)) turn (sound .steady)
@@ -75,10 +77,18 @@ module _ (limit : ℕ) (enough : Enough limit) where
 pub start-good : (limit given : ℕ) → Good limit (start given)
 unfolding firstOf endings frames liveAfter requests
 start-good limit given =
-    by-test (λ b. ltb reservedMax given ≡ b → Good limit (record { past = []; ledger = openedBy given (if b (some 3) none) .next })) (ltb reservedMax given)
+    by-test (λ b. ltb reservedMax given ≡ b
+    → Good limit (record { past = []; ledger = openedBy given (if b (some 3) none) .next })) (ltb reservedMax given)
     (λ b e. record { fine = fresh-fine limit 0 (omega arith); told = untold })
     (λ b e. record { fine = fresh-fine limit given (ltb-false reservedMax given e); told = untold })
     refl
   where
     untold : Told [] []
-    untold = record { owners = tt; once = λ k. omega arith; few = λ k. record { three = omega arith; alike = tt }; belongs = tt; fates = tt }
+    untold = record {
+      owners = tt;
+      once = λ k. omega arith;
+      few = λ k. record { three = omega arith; alike = tt };
+      belongs =
+          tt;
+      fates = tt;
+    }

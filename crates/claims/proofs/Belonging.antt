@@ -55,7 +55,8 @@ asked-before id (e ∷ h) {a} last = go (idIn (e .answer)) (λ k. asked-before i
         k
 
 -- two IDs whose last request is at one place are the same
-pub one-name : (id id' : ℕ) (h : List Entry) {a a' : Asked} → lastAsked id h ≡ some a → lastAsked id' h ≡ some a' → a .place ≡ a' .place
+pub one-name : (id id' : ℕ) (h : List Entry) {a a' : Asked} → lastAsked id h ≡ some a → lastAsked id' h ≡ some a'
+    → a .place ≡ a' .place
     → id ≡ id'
 unfolding lastAsked
 one-name id id' [] e e' same = let z : _≡_ {A = ℕ} 0 1 = cc in absurd (omega arith)

@@ -17,11 +17,11 @@ use Rattle.ledger.specs.Refusals.{firstOf}
 use Rattle.ledger.specs.Runs.{openedBy, step, Entry, Run, start, then, run}
 use Rattle.claims.specs.Trace.{Asked, isAccepted, idIn, lastAsked, endings, liveAfter, requests}
 use Rattle.claims.specs.ClockRule.{leaveOf, mayBeLater, mayFollow, keepsClockRule}
-use Rattle.claims.specs.Clauses.{All, _∈_, here, there, Fate, is-live, has-ended, longest, Bounded}
+use Rattle.claims.specs.Clauses.{All, _∈_, here, there, Fate, is-live, has-ended, longest, Bounded, Enough}
 use Rattle.claims.proofs.Cases.{by-test}
 use Rattle.claims.proofs.Lists.{all-of, all-map, all-right}
 use Rattle.claims.proofs.Views.{quietIn, Change, stays, joins, leaves, turns, rests-free, rests-busy, View, refuses, accepts, view}
-use Rattle.claims.proofs.Fine.{Sound, Fine, Enough, issued-free}
+use Rattle.claims.proofs.Fine.{Sound, Fine, issued-free}
 use Rattle.claims.proofs.Belonging.{asks-none, asks-other, asks-it}
 use Rattle.claims.proofs.Owners.{Own, Owners, not-live}
 use Rattle.claims.proofs.Along.{Good, entryOf, now-sound, good-step, start-good}
@@ -54,15 +54,19 @@ every P f (q ∷ qs) = (f q, every P f qs)
 
 -- a call that is no submit leaves the readings
 module _ (e : Entry) (h : List Entry) (limit t : ℕ) where
-  unasked : (qs : List Request) → idIn (e .answer) ≡ none → Timely limit t (acceptedAt h) qs → Timely limit t (acceptedAt (e ∷ h)) qs
+  unasked : (qs : List Request) → idIn (e .answer) ≡ none → Timely limit t (acceptedAt h) qs
+      → Timely limit t (acceptedAt (e ∷ h)) qs
   unasked qs asked timely =
       timely-same limit t (acceptedAt h) (acceptedAt (e ∷ h)) qs
       (every (λ q. acceptedAt (e ∷ h) q ≡ acceptedAt h q) (λ q. ap timeOf (asks-none e h (q .id) asked)) qs) timely
 
 module _ (limit : ℕ) (enough : Enough limit) where
-  changed : (l : Ledger) (c : Call) (h : List Entry) (d : Done) → Fine limit l → l .clock ≤ readingOf c → Change limit l (readingOf c) d
-      → Timely limit (readingOf c) (acceptedAt h) (l .live) → Timely limit (readingOf c) (acceptedAt (entryOf c d ∷ h)) (d .next .live)
-  changed l c h d fine go-on (stays shows same) timely = rw same (unasked (entryOf c d) h limit (readingOf c) (l .live) (shows .asks) timely)
+  changed : (l : Ledger) (c : Call) (h : List Entry) (d : Done) → Fine limit l → l .clock ≤ readingOf c
+      → Change limit l (readingOf c) d
+      → Timely limit (readingOf c) (acceptedAt h) (l .live)
+      → Timely limit (readingOf c) (acceptedAt (entryOf c d ∷ h)) (d .next .live)
+  changed l c h d fine go-on (stays shows same) timely = rw same
+      (unasked (entryOf c d) h limit (readingOf c) (l .live) (shows .asks) timely)
   changed l c h d fine go-on (rests-free current free idle shows same) timely =
       rw same (unasked (entryOf c d) h limit (readingOf c) (l .live) (shows .asks) timely)
   changed l c h d fine go-on (rests-busy current b a q f among flying calm shows same) timely =
@@ -72,7 +76,8 @@ module _ (limit : ℕ) (enough : Enough limit) where
       (timely-less limit (readingOf c) (acceptedAt h) b a q (rw among at timely)))
   changed l c h d fine go-on (turns b a q s frame among turn first shows same) timely =
       rw same (unasked (entryOf c d) h limit (readingOf c) (b ++ (withState s q ∷ a)) (shows .asks)
-      (timely-turn limit (readingOf c) (acceptedAt h) l b a q turn (λ new. (rw among at (first new .0), first new .1)) (λ s. refl) (rw among at timely)))
+      (timely-turn limit (readingOf c) (acceptedAt h) l b a q turn (λ new. (rw among at (first new .0), first new .1)) (λ s. refl)
+      (rw among at timely)))
   changed l c h d fine go-on (joins q new named short room shows same) timely =
       let e = entryOf c d in
       let accepted = acceptedAt (e ∷ h) in
@@ -80,7 +85,8 @@ module _ (limit : ℕ) (enough : Enough limit) where
       let few = fine .fit .few in
       let fewer : length (l .live) < limit = omega (arith, room) in
       let at-now : accepted q ≡ readingOf c = ap timeOf (asks-it e h (shows .asks)) in
-      rw same (timely-join limit (readingOf c) accepted (l .reserved) (l .live) q new at-now (now-sound l fine go-on) (fine .fit .one) fewer
+      rw same (timely-join limit (readingOf c) accepted (l .reserved) (l .live) q new at-now (now-sound l fine go-on)
+      (fine .fit .one) fewer
       (timely-same limit (readingOf c) (acceptedAt h) accepted (l .live)
       (all-map (λ x. x .id ≡ q .id → ⊥) (λ x. accepted x ≡ acceptedAt h x)
       (λ x apart. ap timeOf (asks-other e h (x .id) (shows .asks) (λ k. apart (sym k)))) (l .live) free) timely))
@@ -109,7 +115,8 @@ module _ (e : Entry) (h : List Entry) (t : ℕ) (accepted : isAccepted (e .answe
   stands-still : quietIn (e .answer) ≡ none → mayFollow (e ∷ h) t ≡ true → t ≤ readingOf (e .call)
   unfolding mayFollow
   stands-still other may =
-      by-test (λ b. ltb (readingOf (e .call)) t ≡ b → if b (mayBeLater (e .answer) (readingOf (e .call)) t) true ≡ true → t ≤ readingOf (e .call))
+      by-test (λ b. ltb (readingOf (e .call)) t ≡ b → if b (mayBeLater (e .answer) (readingOf (e .call)) t) true ≡ true
+      → t ≤ readingOf (e .call))
       (ltb (readingOf (e .call)) t)
       (λ b k m.
       let never = not-quiet (e .answer) (readingOf (e .call)) t other in
@@ -122,7 +129,8 @@ module _ (e : Entry) (h : List Entry) (t : ℕ) (accepted : isAccepted (e .answe
       → All (Until (readingOf (e .call))) live → mayFollow (e ∷ h) t ≡ true → All (Until t) live
   unfolding mayFollow
   up-to live rests until may =
-      by-test (λ b. ltb (readingOf (e .call)) t ≡ b → if b (mayBeLater (e .answer) (readingOf (e .call)) t) true ≡ true → All (Until t) live)
+      by-test (λ b. ltb (readingOf (e .call)) t ≡ b → if b (mayBeLater (e .answer) (readingOf (e .call)) t) true ≡ true
+      → All (Until t) live)
       (ltb (readingOf (e .call)) t)
       (λ b k m. by-earliest (earliest live) refl (rw (is-quiet (e .answer) _ rests) at m))
       (λ b k m. all-map (Until (readingOf (e .call))) (Until t) (until-sooner (ltb-false (readingOf (e .call)) t k)) live until)
@@ -138,7 +146,8 @@ module _ (e : Entry) (h : List Entry) (t : ℕ) (accepted : isAccepted (e .answe
 
 -- at every reading that may come next
 pub record Timed (limit : ℕ) (s : Run) : Type 0 where
-  pub ready : (t : ℕ) → s .ledger .clock ≤ t → mayFollow (s .past) t ≡ true → Timely limit t (acceptedAt (s .past)) (s .ledger .live)
+  pub ready : (t : ℕ) → s .ledger .clock ≤ t → mayFollow (s .past) t ≡ true
+      → Timely limit t (acceptedAt (s .past)) (s .ledger .live)
 
 both : (a b : Bool) → a && b ≡ true → (a ≡ true) × (b ≡ true)
 both true b h = (refl, h)
@@ -148,15 +157,18 @@ pub kept-before : (e : Entry) (h : List Entry) → keepsClockRule (e ∷ h) ≡ 
 unfolding keepsClockRule
 kept-before e h kept = both (not (isAccepted (e .answer)) || mayFollow h (readingOf (e .call))) (keepsClockRule h) kept .1
 
-pub kept-now : (e : Entry) (h : List Entry) → isAccepted (e .answer) ≡ true → keepsClockRule (e ∷ h) ≡ true → mayFollow h (readingOf (e .call)) ≡ true
+pub kept-now : (e : Entry) (h : List Entry) → isAccepted (e .answer) ≡ true → keepsClockRule (e ∷ h) ≡ true
+    → mayFollow h (readingOf (e .call)) ≡ true
 unfolding keepsClockRule
 kept-now e h accepted kept =
     rw accepted at (both (not (isAccepted (e .answer)) || mayFollow h (readingOf (e .call))) (keepsClockRule h) kept .0)
 
 module _ (limit : ℕ) (enough : Enough limit) where
-  timed-after : (l : Ledger) (c : Call) (h : List Entry) (d : Done) → Fine limit l → View limit l c d → keepsClockRule (entryOf c d ∷ h) ≡ true
+  timed-after : (l : Ledger) (c : Call) (h : List Entry) (d : Done) → Fine limit l → View limit l c d
+      → keepsClockRule (entryOf c d ∷ h) ≡ true
       → ((t : ℕ) → l .clock ≤ t → mayFollow h t ≡ true → Timely limit t (acceptedAt h) (l .live))
-      → (t : ℕ) → d .next .clock ≤ t → mayFollow (entryOf c d ∷ h) t ≡ true → Timely limit t (acceptedAt (entryOf c d ∷ h)) (d .next .live)
+      → (t : ℕ) → d .next .clock ≤ t → mayFollow (entryOf c d ∷ h) t ≡ true
+      → Timely limit t (acceptedAt (entryOf c d ∷ h)) (d .next .live)
   unfolding mayFollow
   timed-after l c h d fine (refuses n number buffers same) kept ready t on may =
       let before = ready t (rw same at on) (rw number at may) in
@@ -193,16 +205,21 @@ module _ (limit : ℕ) (enough : Enough limit) where
       go (leaves b a q x among named shows same) = still (shows .rests)
       go (turns b a q s frame among turn first shows same) = still (shows .rests)
       go (rests-free current free idle shows same) =
-          rw same (timely-free limit (readingOf c) (acceptedAt (entryOf c d ∷ h)) t (l .live) free idle (until (shows .rests) same) (rw same at after))
+          rw same (timely-free limit (readingOf c) (acceptedAt (entryOf c d ∷ h)) t (l .live) free idle (until (shows .rests) same)
+          (rw same at after))
       go (rests-busy current b a q f among flying calm shows same) =
           let steady = all-right (Sound (l .reserved) (readingOf c)) b (q ∷ a) (rw among at (now-sound l fine go-on)) .0 .steady in
           let few : f .transmissions ≤ maxTransmissions = (rw flying at steady) .1 in
           rw (same, among) (timely-busy limit (readingOf c) (acceptedAt (entryOf c d ∷ h)) t b a q flying few
           (rw among at (until (shows .rests) same)) (rw (same, among) at after))
 
-  timed-step : (s : Run) (c : Call) → Good limit s → keepsClockRule (then limit s c .past) ≡ true → Timed limit s → Timed limit (then limit s c)
+  timed-step : (s : Run) (c : Call) → Good limit s → keepsClockRule (then limit s c .past) ≡ true → Timed limit s
+      → Timed limit (then limit s c)
   timed-step s c good kept timed =
-      record { ready = timed-after (s .ledger) c (s .past) (step limit (s .ledger) c) (good .fine) (view limit (s .ledger) c) kept (timed .ready) }
+      record {
+        ready = timed-after (s .ledger) c (s .past) (step limit (s .ledger) c) (good .fine) (view limit (s .ledger) c) kept
+            (timed .ready);
+      }
 
 -- nothing is live at the start
 pub start-timed : (limit given : ℕ) → Timed limit (start given)
@@ -213,7 +230,8 @@ start-timed limit given =
     (λ e. record { ready = λ t on may. record { base = t; later = omega arith; line = tt } })
 
 -- the request of the ledger that a live request of the list is
-owned : (h : List Entry) (live : List Asked) (qs : List Request) (a : Asked) → a ∈ live → Owners h live qs → (q : Request) × Own h a q × q ∈ qs
+owned : (h : List Entry) (live : List Asked) (qs : List Request) (a : Asked) → a ∈ live → Owners h live qs
+    → (q : Request) × Own h a q × q ∈ qs
 owned h (x ∷ live) (q ∷ qs) a here own = (q, own .0, here)
 owned h (x ∷ live) [] a here own = absurd own
 owned h (x ∷ live) (q ∷ qs) a (there among) own = let rest = owned h live qs a among (own .1) in (rest .0, rest .1, there (rest .2))
@@ -243,7 +261,8 @@ module _ (limit : ℕ) (enough : Enough limit) where
           (λ q. readingOf c < acceptedAt (entryOf c d ∷ h) q + 3000 * limit + 3000)
           (λ q k. rw (asks-none (entryOf c d) h (q .id) told) k) (l .live)
 
-      go : Change limit l (readingOf c) d → All (λ q. readingOf c < acceptedAt (entryOf c d ∷ h) q + 3000 * limit + 3000) (d .next .live)
+      go : Change limit l (readingOf c) d
+          → All (λ q. readingOf c < acceptedAt (entryOf c d ∷ h) q + 3000 * limit + 3000) (d .next .live)
       go (stays shows same) = absurd (noisy (shows .rests))
       go (joins q new named short room shows same) = absurd (noisy (shows .rests))
       go (leaves b a q x among named shows same) = absurd (noisy (shows .rests))
@@ -253,38 +272,49 @@ module _ (limit : ℕ) (enough : Enough limit) where
       go (rests-busy current b a q f among flying calm shows same) =
           let steady = all-right (Sound (l .reserved) (readingOf c)) b (q ∷ a) (rw among at (now-sound l fine go-on)) .0 .steady in
           let few : f .transmissions ≤ maxTransmissions = (rw flying at steady) .1 in
-          rw same (moved (rw among (early-busy limit (readingOf c) (acceptedAt h) b a q flying few calm (rw among at current) (rw among at (timely accepted)))))
+          rw same (moved (rw among (early-busy limit (readingOf c) (acceptedAt h) b a q flying few calm (rw among at current)
+          (rw among at (timely accepted)))))
 
-  pub quiet-ends : (s : Run) (c : Call) (time : Option ℕ) → Good limit s → Timed limit s → keepsClockRule (then limit s c .past) ≡ true
+  pub quiet-ends : (s : Run) (c : Call) (time : Option ℕ) → Good limit s → Timed limit s
+      → keepsClockRule (then limit s c .past) ≡ true
       → step limit (s .ledger) c .answer ≡ polled (quiet time)
-      → All (λ a. a .time + longest limit ≤ readingOf c → endings (a .place) (then limit s c .past) ≡ 1) (requests (then limit s c .past))
+      → All (λ a. a .time + longest limit ≤ readingOf c → endings (a .place) (then limit s c .past) ≡ 1)
+      (requests (then limit s c .past))
   quiet-ends s c time good timed kept answered =
-      all-map (Fate (then limit s c .past)) (λ a. a .time + longest limit ≤ readingOf c → endings (a .place) (then limit s c .past) ≡ 1)
+      all-map (Fate (then limit s c .past)) (λ a. a .time + longest limit ≤ readingOf c
+      → endings (a .place) (then limit s c .past) ≡ 1)
       over (requests (then limit s c .past)) (next .told .fates)
     where
       next : Good limit (then limit s c)
       next = good-step limit enough s c good
 
       early : All (λ q. readingOf c < acceptedAt (then limit s c .past) q + 3000 * limit + 3000) (then limit s c .ledger .live)
-      early = quiet-early (s .ledger) c (s .past) (step limit (s .ledger) c) time (good .fine) (view limit (s .ledger) c) timely answered
+      early = quiet-early (s .ledger) c (s .past) (step limit (s .ledger) c) time (good .fine)
+          (view limit (s .ledger) c) timely answered
         where
-          timely : isAccepted (step limit (s .ledger) c .answer) ≡ true → Timely limit (readingOf c) (acceptedAt (s .past)) (s .ledger .live)
-          timely accepted = timed .ready (readingOf c) (clock-on (view limit (s .ledger) c)) (kept-now (entryOf c (step limit (s .ledger) c)) (s .past) accepted kept)
+          timely : isAccepted (step limit (s .ledger) c .answer) ≡ true
+              → Timely limit (readingOf c) (acceptedAt (s .past)) (s .ledger .live)
+          timely accepted = timed .ready (readingOf c) (clock-on (view limit (s .ledger) c))
+              (kept-now (entryOf c (step limit (s .ledger) c)) (s .past) accepted kept)
             where
               clock-on : View limit (s .ledger) c (step limit (s .ledger) c) → s .ledger .clock ≤ readingOf c
               clock-on (refuses n number buffers same) = let z : _≡_ {A = ℕ} 0 1 = cc in absurd (omega arith)
               clock-on (accepts go-on accepted' keeps change) = go-on
 
-      over : (a : Asked) → Fate (then limit s c .past) a → a .time + longest limit ≤ readingOf c → endings (a .place) (then limit s c .past) ≡ 1
+      over : (a : Asked) → Fate (then limit s c .past) a → a .time + longest limit ≤ readingOf c
+          → endings (a .place) (then limit s c .past) ≡ 1
       over a (has-ended once) late = once
       over a (is-live among unended) late =
-          let mine = owned (then limit s c .past) (liveAfter (then limit s c .past)) (then limit s c .ledger .live) a among (next .told .owners) in
-          let soon = all-of (λ q. readingOf c < acceptedAt (then limit s c .past) q + 3000 * limit + 3000) (then limit s c .ledger .live) early (mine .0) (mine .2) in
+          let mine = owned (then limit s c .past) (liveAfter (then limit s c .past)) (then limit s c .ledger .live) a among
+          (next .told .owners) in
+          let soon = all-of (λ q. readingOf c < acceptedAt (then limit s c .past) q + 3000 * limit + 3000)
+          (then limit s c .ledger .live) early (mine .0) (mine .2) in
           let same : acceptedAt (then limit s c .past) (mine .0) ≡ a .time = ap timeOf (mine .1 .last) in
           absurd (omega arith)
 
   -- no accepted call comes later than that while a request is live
-  pub call-in-time : (s : Run) (c : Call) → Good limit s → Timed limit s → s .ledger .clock ≤ readingOf c → mayFollow (s .past) (readingOf c) ≡ true
+  pub call-in-time : (s : Run) (c : Call) → Good limit s → Timed limit s → s .ledger .clock ≤ readingOf c
+      → mayFollow (s .past) (readingOf c) ≡ true
       → All (λ a. readingOf c ≤ a .time + longest limit) (liveAfter (s .past))
   call-in-time s c good timed on may = go (liveAfter (s .past)) (λ a among. among)
     where
@@ -292,16 +322,19 @@ module _ (limit : ℕ) (enough : Enough limit) where
       timely = timed .ready (readingOf c) on may
 
       within : All (λ q. readingOf c ≤ acceptedAt (s .past) q + 3000 * limit + 3000) (s .ledger .live)
-      within = line-in-time limit (readingOf c) (acceptedAt (s .past)) (timely .base) (timely .base) (s .ledger .live) (timely .later) (omega arith) (timely .line)
+      within = line-in-time limit (readingOf c) (acceptedAt (s .past)) (timely .base) (timely .base) (s .ledger .live)
+          (timely .later) (omega arith) (timely .line)
 
       one : (a : Asked) → a ∈ liveAfter (s .past) → readingOf c ≤ a .time + longest limit
       one a among =
           let mine = owned (s .past) (liveAfter (s .past)) (s .ledger .live) a among (good .told .owners) in
-          let soon = all-of (λ q. readingOf c ≤ acceptedAt (s .past) q + 3000 * limit + 3000) (s .ledger .live) within (mine .0) (mine .2) in
+          let soon = all-of (λ q. readingOf c ≤ acceptedAt (s .past) q + 3000 * limit + 3000) (s .ledger .live) within (mine .0)
+          (mine .2) in
           let same : acceptedAt (s .past) (mine .0) ≡ a .time = ap timeOf (mine .1 .last) in
           omega arith
 
-      go : (live : List Asked) → ((a : Asked) → a ∈ live → a ∈ liveAfter (s .past)) → All (λ a. readingOf c ≤ a .time + longest limit) live
+      go : (live : List Asked) → ((a : Asked) → a ∈ live → a ∈ liveAfter (s .past))
+          → All (λ a. readingOf c ≤ a .time + longest limit) live
       go [] sub = tt
       go (a ∷ live) sub = (one a (sub a here), go live (λ x m. sub x (there m)))
 
@@ -324,7 +357,8 @@ module _ (limit : ℕ) (enough : Enough limit) where
           (λ kept.
               let before = told .timed (kept-before e (s .past) kept) in (
                 (λ time answered. quiet-ends s c time good before kept answered),
-                (λ accepted. call-in-time s c good before (clock-of (s .ledger) c (view limit (s .ledger) c) accepted) (kept-now e (s .past) accepted kept)),
+                (λ accepted. call-in-time s c good before (clock-of (s .ledger) c (view limit (s .ledger) c) accepted)
+                    (kept-now e (s .past) accepted kept)),
               )),
           told .bounded,
         );
@@ -337,4 +371,5 @@ module _ (limit : ℕ) (enough : Enough limit) where
 
   pub always-bounded : (given : ℕ) (cs : List Call) → Bounded limit (run limit (start given) cs .past)
   always-bounded given cs =
-      bounded-run (start given) cs (start-good limit given) (record { timed = λ kept. start-timed limit given; bounded = tt }) .bounded
+      bounded-run (start given) cs (start-good limit given) (record { timed = λ kept. start-timed limit given; bounded = tt })
+      .bounded

@@ -56,7 +56,8 @@ module _ (limit t : ℕ) (accepted : Request → ℕ) where
   after-sooner free free' (inFlight f) less = less
   after-sooner free free' (waiting since) less = less
 
-  line-sooner : (base free free' : ℕ) (qs : List Request) → free' ≤ free → Line limit t base free accepted qs → Line limit t base free' accepted qs
+  line-sooner : (base free free' : ℕ) (qs : List Request) → free' ≤ free → Line limit t base free accepted qs
+      → Line limit t base free' accepted qs
   line-sooner base free free' [] less h = tt
   line-sooner base free free' (q ∷ qs) less h = (
     ok-sooner base free free' (accepted q) (q .state) less (h .0),
@@ -79,12 +80,17 @@ module _ (limit t : ℕ) (accepted : Request → ℕ) where
     ok : (free : ℕ) → base ≤ free → Ok limit t base free a from → Ok limit t base free a to
     after : (free : ℕ) → freeAfter free to ≡ freeAfter free from
 
-  lighter : (l : Ledger) (q : Request) (base a : ℕ) {from to : State} {frame : Option (List ℕ)} → Turn l t q from to frame → t ≤ base
+  lighter : (l : Ledger) (q : Request) (base a : ℕ) {from to : State} {frame : Option (List ℕ)} → Turn l t q from to frame
+      → t ≤ base
       → (from ≡ queued → ⊥) → Lighter base a from to
   lighter l q base a (acknowledges wanted) on sent = record { ok = λ free h k. (omega arith, omega arith); after = λ free. refl }
   lighter l q base a marks on sent = record { ok = λ free h k. k; after = λ free. refl }
   lighter l q base a starts on sent = absurd (sent refl)
-  lighter l q base a (sends-again late may) on sent = record { ok = λ free h k. (omega arith, omega arith, k .2); after = λ free. refl }
+  lighter l q base a (sends-again late may) on sent = record {
+    ok = λ free h k. (omega arith, omega arith, k .2);
+    after = λ free.
+        refl;
+  }
 
   line-turn : (base free : ℕ) (b a : List Request) (q : Request) (s : State) → base ≤ free → Lighter base (accepted q) (q .state) s
       → accepted (withState s q) ≡ accepted q
@@ -103,16 +109,21 @@ module _ (limit t : ℕ) (accepted : Request → ℕ) where
   line-unflown : (base base' free : ℕ) (qs : List Request) → All (λ q. flies q ≡ none) qs → Line limit t base free accepted qs
       → Line limit t base' free accepted qs
   line-unflown base base' free [] down h = tt
-  line-unflown base base' free (q ∷ qs) down h =
-      (ok-unflown base base' free (accepted q) (q .state) (down .0) (h .0), line-unflown base base' (freeAfter free (q .state)) qs (down .1) (h .1))
+  line-unflown base base' free (q ∷ qs) down h = (
+    ok-unflown base base' free (accepted q) (q .state) (down .0) (h .0),
+    line-unflown base base' (freeAfter free (q .state)) qs
+        (down .1) (h .1),
+  )
 
   -- where none is queued either, neither does when it is free
-  ok-idle : (base free base' free' a : ℕ) (s : State) → frameIn s ≡ none → queuedIn s ≡ none → Ok limit t base free a s → Ok limit t base' free' a s
+  ok-idle : (base free base' free' a : ℕ) (s : State) → frameIn s ≡ none → queuedIn s ≡ none → Ok limit t base free a s
+      → Ok limit t base' free' a s
   ok-idle base free base' free' a queued h j k = let z : _≡_ {A = ℕ} 0 1 = cc in absurd (omega arith)
   ok-idle base free base' free' a (inFlight f) h j k = let z : _≡_ {A = ℕ} 0 1 = cc in absurd (omega arith)
   ok-idle base free base' free' a (waiting since) h j k = k
 
-  line-idle : (base free base' free' : ℕ) (qs : List Request) → All (λ q. flies q ≡ none) qs → All (λ q. queuedIn (q .state) ≡ none) qs
+  line-idle : (base free base' free' : ℕ) (qs : List Request) → All (λ q. flies q ≡ none) qs
+      → All (λ q. queuedIn (q .state) ≡ none) qs
       → Line limit t base free accepted qs → Line limit t base' free' accepted qs
   line-idle base free base' free' [] down idle h = tt
   line-idle base free base' free' (q ∷ qs) down idle h = (
@@ -132,15 +143,18 @@ module _ (limit t : ℕ) (accepted : Request → ℕ) where
       → Line limit t (free + 3000) (free + 3000) accepted (b ++ (withState (inFlight f) q ∷ a))
   line-start base free [] a q f on first now down idle new same h =
       let ok : Ok limit t base free (accepted q) queued = subst (Ok limit t base free (accepted q)) new (h .0) in
-      let rest : Line limit t base (freeAfter free queued) accepted a = subst (λ s. Line limit t base (freeAfter free s) accepted a) new (h .1) in
+      let rest : Line limit t base (freeAfter free queued) accepted a =
+      subst (λ s. Line limit t base (freeAfter free s) accepted a) new (h .1) in
       (rw same (omega arith, omega arith, ok), line-unflown base (free + 3000) (free + 3000) a (down .1) rest)
   line-start base free (x ∷ b) a q f on first now down idle new same h =
-      let rest = line-start base free b a q f on first now (down .1) (idle .1) new same (rw (after-idle free (x .state) (idle .0)) at (h .1)) in (
+      let rest = line-start base free b a q f on first now (down .1) (idle .1) new same
+      (rw (after-idle free (x .state) (idle .0)) at (h .1)) in (
         ok-idle base free (free + 3000) (free + 3000) (accepted x) (x .state) (down .0) (idle .0) (h .0),
         rw (after-idle (free + 3000) (x .state) (idle .0)) rest,
       )
 
-  pub timely-turn : (l : Ledger) (b a : List Request) (q : Request) {s : State} {frame : Option (List ℕ)} → Turn l t q (q .state) s frame
+  pub timely-turn : (l : Ledger) (b a : List Request) (q : Request) {s : State} {frame : Option (List ℕ)}
+      → Turn l t q (q .state) s frame
       → (q .state ≡ queued → All (λ x. flies x ≡ none) (b ++ (q ∷ a)) × All (λ x. queuedIn (x .state) ≡ none) b)
       → ((s : State) → accepted (withState s q) ≡ accepted q)
       → Timely limit t accepted (b ++ (q ∷ a)) → Timely limit t accepted (b ++ (withState s q ∷ a))
@@ -149,7 +163,8 @@ module _ (limit t : ℕ) (accepted : Request → ℕ) where
       flown : {f : Frame} → inFlight f ≡ queued → ⊥
       flown e = let z : _≡_ {A = ℕ} 0 1 = cc in omega arith
 
-      lightly : {from to : State} → q .state ≡ from → Lighter (h .base) (accepted q) from to → Timely limit t accepted (b ++ (withState to q ∷ a))
+      lightly : {from to : State} → q .state ≡ from → Lighter (h .base) (accepted q) from to
+          → Timely limit t accepted (b ++ (withState to q ∷ a))
       lightly {from} {to} e light =
           record {
             base = h .base;
@@ -165,11 +180,14 @@ module _ (limit t : ℕ) (accepted : Request → ℕ) where
           record {
             base = h .base + 3000;
             later = omega arith;
-            line = line-start (h .base) (h .base) b a q (firstSent (l .nextSeq) t) (h .later) refl refl (first e .0) (first e .1) e (same _) (h .line);
+            line = line-start (h .base) (h .base) b a q (firstSent (l .nextSeq) t) (h .later) refl refl (first e .0) (first e .1) e
+                (same _) (h .line);
           }
-      go (inFlight f) e (acknowledges wanted) = lightly e (lighter l q (h .base) (accepted q) (acknowledges wanted) (h .later) flown)
+      go (inFlight f) e (acknowledges wanted) = lightly e (lighter l q (h .base) (accepted q) (acknowledges wanted)
+          (h .later) flown)
       go (inFlight f) e marks = lightly e (lighter l q (h .base) (accepted q) marks (h .later) flown)
-      go (inFlight f) e (sends-again late may) = lightly e (lighter l q (h .base) (accepted q) (sends-again late may) (h .later) flown)
+      go (inFlight f) e (sends-again late may) = lightly e (lighter l q (h .base) (accepted q) (sends-again late may)
+          (h .later) flown)
 
   -- how many are queued
   queuedOnce : State → ℕ
@@ -209,13 +227,15 @@ module _ (limit t : ℕ) (accepted : Request → ℕ) where
       (h .0, line-more base (freeAfter free (x .state)) qs q new (omega arith) (h .1))
 
   -- the line is free by 3,000 ms from now, or now where none is in flight
-  line-rebase : (r base base' free free' : ℕ) (qs : List Request) → free' ≤ free → All (Sound r t) qs → t + 3000 * flights qs ≤ base'
+  line-rebase : (r base base' free free' : ℕ) (qs : List Request) → free' ≤ free → All (Sound r t) qs
+      → t + 3000 * flights qs ≤ base'
       → Line limit t base free accepted qs → Line limit t base' free' accepted qs
   unfolding flights
   line-rebase r base base' free free' [] less sound on h = tt
   line-rebase r base base' free free' (q ∷ qs) less sound on h = (
     ok (q .state) (sound .0 .steady) (omega arith) (h .0),
-    line-rebase r base base' (freeAfter free (q .state)) (freeAfter free' (q .state)) qs (after-sooner free free' (q .state) less) (sound .1)
+    line-rebase r base base' (freeAfter free (q .state)) (freeAfter free' (q .state)) qs (after-sooner free free' (q .state) less)
+        (sound .1)
         (omega arith) (h .1),
   )
     where
@@ -229,7 +249,8 @@ module _ (limit t : ℕ) (accepted : Request → ℕ) where
       → flights live ≤ 1 → length live < limit → Timely limit t accepted live → Timely limit t accepted (live ++ (q ∷ []))
   timely-join r live q new at sound one room h =
       let count = all-at-most live in
-      by-test (λ b. leb (h .base) (t + 3000 * flights live) ≡ b → Timely limit t accepted (live ++ (q ∷ []))) (leb (h .base) (t + 3000 * flights live))
+      by-test (λ b. leb (h .base) (t + 3000 * flights live) ≡ b → Timely limit t accepted (live ++ (q ∷ [])))
+      (leb (h .base) (t + 3000 * flights live))
       (λ b e.
       let early = leb-true (h .base) (t + 3000 * flights live) e in
       record { base = h .base; later = h .later; line = line-more (h .base) (h .base) live q new (omega arith) (h .line) })
@@ -281,8 +302,11 @@ least (q ∷ qs) {m} e = go (deadlineIn (q .state)) refl (earliest qs) refl e (�
     go (some a) d none r e ih =
         ((λ x k. let f = some-number e in let g = some-number (sym d ∙ k) in omega arith), no-deadline m qs r)
     go (some a) d (some b) r e ih =
-        let f = some-number e in
-        ((λ x k. let g = some-number (sym d ∙ k) in omega arith), all-map (Until b) (Until m) (until-sooner (omega arith)) qs (ih b r))
+        let f = some-number e in (
+          (λ x k. let g = some-number (sym d ∙ k) in omega arith),
+          all-map (Until b) (Until m) (until-sooner (omega arith)) qs
+              (ih b r),
+        )
 
 -- and no earlier than a reading that none of them has passed
 pub not-before : (t : ℕ) (qs : List Request) {m : ℕ} → earliest qs ≡ some m → All (Until t) qs → t ≤ m
@@ -304,27 +328,39 @@ module _ (limit t : ℕ) (accepted : Request → ℕ) where
 
   pub line-until : (base free : ℕ) (qs : List Request) → Line limit t base free accepted qs → All (Until t) qs
   line-until base free [] h = tt
-  line-until base free (q ∷ qs) h = (ok-until base free (accepted q) (q .state) (h .0), line-until base (freeAfter free (q .state)) qs (h .1))
+  line-until base free (q ∷ qs) h = (
+    ok-until base free (accepted q) (q .state) (h .0),
+    line-until base
+        (freeAfter free (q .state)) qs (h .1),
+  )
 
   -- time goes on, up to a deadline
-  ok-on : (t' base free a : ℕ) (s : State) → ((d : ℕ) → deadlineIn s ≡ some d → t' ≤ d) → Ok limit t base free a s → Ok limit t' base free a s
+  ok-on : (t' base free a : ℕ) (s : State) → ((d : ℕ) → deadlineIn s ≡ some d → t' ≤ d) → Ok limit t base free a s
+      → Ok limit t' base free a s
   ok-on t' base free a queued until h = h
   ok-on t' base free a (inFlight f) until h = (until (deadline f) refl, h .1, h .2)
   ok-on t' base free a (waiting since) until h = (until (since + responseTime) refl, h .1)
 
-  line-on : (t' base free : ℕ) (qs : List Request) → All (Until t') qs → Line limit t base free accepted qs → Line limit t' base free accepted qs
+  line-on : (t' base free : ℕ) (qs : List Request) → All (Until t') qs → Line limit t base free accepted qs
+      → Line limit t' base free accepted qs
   line-on t' base free [] until h = tt
-  line-on t' base free (q ∷ qs) until h =
-      (ok-on t' base free (accepted q) (q .state) (until .0) (h .0), line-on t' base (freeAfter free (q .state)) qs (until .1) (h .1))
+  line-on t' base free (q ∷ qs) until h = (
+    ok-on t' base free (accepted q) (q .state) (until .0) (h .0),
+    line-on t' base (freeAfter free (q .state)) qs (until .1)
+        (h .1),
+  )
 
   -- the one in flight leaves by base
-  flown-by : (base free : ℕ) (b a : List Request) (q : Request) {f : Frame} → q .state ≡ inFlight f → f .transmissions ≤ maxTransmissions
+  flown-by : (base free : ℕ) (b a : List Request) (q : Request) {f : Frame} → q .state ≡ inFlight f
+      → f .transmissions ≤ maxTransmissions
       → Line limit t base free accepted (b ++ (q ∷ a)) → deadline f ≤ base
   flown-by base free [] a q {f} flying few h =
-      let ok : Ok limit t base free (accepted q) (inFlight f) = subst (Ok limit t base free (accepted q)) flying (h .0) in omega arith
+      let ok : Ok limit t base free (accepted q) (inFlight f) =
+      subst (Ok limit t base free (accepted q)) flying (h .0) in omega arith
   flown-by base free (x ∷ b) a q flying few h = flown-by base (freeAfter free (x .state)) b a q flying few (h .1)
 
-  pub timely-busy : (t' : ℕ) (b a : List Request) (q : Request) {f : Frame} → q .state ≡ inFlight f → f .transmissions ≤ maxTransmissions
+  pub timely-busy : (t' : ℕ) (b a : List Request) (q : Request) {f : Frame} → q .state ≡ inFlight f
+      → f .transmissions ≤ maxTransmissions
       → All (Until t') (b ++ (q ∷ a)) → Timely limit t accepted (b ++ (q ∷ a)) → Timely limit t' accepted (b ++ (q ∷ a))
   timely-busy t' b a q {f} flying few until h =
       let by = flown-by (h .base) (h .base) b a q flying few (h .line) in
@@ -337,7 +373,8 @@ module _ (limit t : ℕ) (accepted : Request → ℕ) where
       record {
         base = t';
         later = omega arith;
-        line = line-idle limit t' accepted (h .base) (h .base) t' t' live down idle (line-on t' (h .base) (h .base) live until (h .line));
+        line = line-idle limit t' accepted (h .base) (h .base) t' t' live down idle
+            (line-on t' (h .base) (h .base) live until (h .line));
       }
 
 -- what is left of the time
@@ -358,7 +395,8 @@ module _ (limit t : ℕ) (accepted : Request → ℕ) where
   -- before its deadline a wait is not over
   current-wait : (since : ℕ) → overdueIn t (waiting since) ≡ none → t < since + responseTime
   current-wait since h =
-      by-test (λ b. leb responseTime (t - since) ≡ b → provided b tt ≡ none → t < since + responseTime) (leb responseTime (t - since))
+      by-test (λ b. leb responseTime (t - since) ≡ b → provided b tt ≡ none → t < since + responseTime)
+      (leb responseTime (t - since))
       (λ b e k. let z : _≡_ {A = ℕ} 0 1 = cc in absurd (omega arith))
       (λ b e k. let less = leb-false responseTime (t - since) e in omega arith)
       refl h
@@ -393,7 +431,8 @@ module _ (limit t : ℕ) (accepted : Request → ℕ) where
       line-early (h .base) (h .base) (b ++ (q ∷ a)) (omega arith) (omega arith) current (h .line)
 
   pub early-free : (live : List Request) → All (λ x. flies x ≡ none) live → All (λ x. queuedIn (x .state) ≡ none) live
-      → All (λ x. overdueIn t (x .state) ≡ none) live → Timely limit t accepted live → All (λ x. t < accepted x + 3000 * limit + 3000) live
+      → All (λ x. overdueIn t (x .state) ≡ none) live → Timely limit t accepted live
+      → All (λ x. t < accepted x + 3000 * limit + 3000) live
   early-free live down idle current h =
       line-early (suc (h .base)) (suc (h .base)) live (let on = h .later in omega arith) (omega arith) current
       (line-idle limit t accepted (h .base) (h .base) (suc (h .base)) (suc (h .base)) live down idle (h .line))

@@ -1,4 +1,5 @@
--- Document 01, "Faults we have shipped or nearly shipped": for each, the statement that shuts it out. They say in plain terms what the
+-- Document 01, "Faults we have shipped or nearly shipped": for each, the statement that shuts it out. They say in plain terms what
+-- the
 -- definitions say by searches; and so does the last, of the order of poll's steps.
 use Prim.Native.Nat.{ℕ, _+_, _-_, _≤_}
 use mathlib.Core.Bool.{Bool, true, false, not, _&&_, cond as if}
@@ -35,7 +36,8 @@ module _ (l : Ledger) (t seq : ℕ) (payload : List ℕ) where
   shown-seq queued h = let z : _≡_ {A = ℕ} 0 1 = cc in absurd (omega arith)
   shown-seq (waiting since) h = let z : _≡_ {A = ℕ} 0 1 = cc in absurd (omega arith)
   shown-seq (inFlight g) {f} h =
-      by-test (λ b. acknowledgedBy g seq ≡ b → provided b g ≡ some f → (inFlight g ≡ inFlight f) × (f .seq ≡ seq)) (acknowledgedBy g seq)
+      by-test (λ b. acknowledgedBy g seq ≡ b → provided b g ≡ some f → (inFlight g ≡ inFlight f) × (f .seq ≡ seq))
+      (acknowledgedBy g seq)
       (λ b e k. let same : g ≡ f = cc in (ap {B = State} inFlight same, rw (sym same) (eqb-true (g .seq) seq e)))
       (λ b e k. let z : _≡_ {A = ℕ} 0 1 = cc in absurd (omega arith))
       refl h
@@ -43,7 +45,8 @@ module _ (l : Ledger) (t seq : ℕ) (payload : List ℕ) where
   pub other-ack-is-stray : All (λ q. (f : Frame) → q .state ≡ inFlight f → f .seq ≡ seq → ⊥) (l .live)
       → onMessage l t ack seq payload ≡ only l t stray
   unfolding onMessage
-  other-ack-is-stray others = go (oldest (λ q. acknowledgedIn seq (q .state)) (l .live)) (look (λ q. acknowledgedIn seq (q .state)) (l .live))
+  other-ack-is-stray others = go (oldest (λ q. acknowledgedIn seq (q .state)) (l .live))
+      (look (λ q. acknowledgedIn seq (q .state)) (l .live))
     where
       go : (s : Search Frame) → Looked (λ q. acknowledgedIn seq (q .state)) (l .live) s → onAck l t s ≡ only l t stray
       go nobody h = refl
@@ -80,7 +83,8 @@ nak-keeps-counts l t seq payload = go (oldest flies (l .live)) (look flies (l .l
     go (somebody b it f a) (one-shows among shown before) = behind b a it f shown ∙ ap counts (sym among)
 
 -- 3. "A repeat left unacknowledged": every DATA_SEQ is replied to with an ACK of its SEQ, a repeat too
-pub sequenced-is-acknowledged : (l : Ledger) (t seq : ℕ) (payload : List ℕ) → onMessage l t dataSeq seq payload .reply ≡ ackMessage seq
+pub sequenced-is-acknowledged : (l : Ledger) (t seq : ℕ) (payload : List ℕ)
+    → onMessage l t dataSeq seq payload .reply ≡ ackMessage seq
 unfolding onMessage
 sequenced-is-acknowledged l t seq payload = refl
 
@@ -109,7 +113,8 @@ provided-test true h = refl
 provided-test false h = let z : _≡_ {A = ℕ} 0 1 = cc in absurd (omega arith)
 
 module _ (l : Ledger) (t : ℕ) (payload : List ℕ) (x : Ending) where
-  every-field : (b a : List Request) (q : Request) → l .live ≡ b ++ (q ∷ a) → x .id ≡ q .id → matches (commandIn payload) q ≡ true → Matched l payload x
+  every-field : (b a : List Request) (q : Request) → l .live ≡ b ++ (q ∷ a) → x .id ≡ q .id → matches (commandIn payload) q ≡ true
+      → Matched l payload x
   unfolding matches answers
   every-field b a q among ended h =
       let f = q .fields in
@@ -138,10 +143,19 @@ module _ (l : Ledger) (t : ℕ) (payload : List ℕ) (x : Ending) where
       }
 
   abbrev told : receiving.Act
-  told = record { word = answer.event (commandIn payload); reply = []; ending = none; bytes = dataIn payload; seen = l .seen; live = l .live }
+  told = record {
+    word = answer.event (commandIn payload);
+    reply = [];
+    ending = none;
+    bytes = dataIn payload;
+    seen =
+        l .seen;
+    live = l .live;
+  }
 
   abbrev response : receiving.Act
-  response = onResponse l t (commandIn payload) (dataIn payload) (oldest (λ q. provided (matches (commandIn payload) q) tt) (l .live))
+  response = onResponse l t (commandIn payload) (dataIn payload)
+      (oldest (λ q. provided (matches (commandIn payload) q) tt) (l .live))
 
   by-response : (s : Search (Unit {0})) → Looked (λ q. provided (matches (commandIn payload) q) tt) (l .live) s
       → onResponse l t (commandIn payload) (dataIn payload) s .ending ≡ some x → Matched l payload x
@@ -153,10 +167,12 @@ module _ (l : Ledger) (t : ℕ) (payload : List ℕ) (x : Ending) where
   unfolding onData
   response-matches-every-field ends =
       let c = commandIn payload in
-      by-test (λ b. (if b (only l t answer.notCommand) (if (leb 1 (c .rqid) && leb (c .rqid) (l .reserved)) told response)) .ending ≡ some x
+      by-test (λ b. (if b (only l t answer.notCommand) (if (leb 1 (c .rqid) && leb (c .rqid) (l .reserved)) told response)) .ending
+      ≡ some x
       → Matched l payload x) (not (isCommand payload))
       (λ e h. let z : _≡_ {A = ℕ} 0 1 = cc in absurd (omega arith))
-      (λ e h. by-test (λ b. (if b told response) .ending ≡ some x → Matched l payload x) (leb 1 (c .rqid) && leb (c .rqid) (l .reserved))
+      (λ e h. by-test (λ b. (if b told response) .ending ≡ some x → Matched l payload x)
+      (leb 1 (c .rqid) && leb (c .rqid) (l .reserved))
       (λ e h. let z : _≡_ {A = ℕ} 0 1 = cc in absurd (omega arith))
       (λ e h. by-response (oldest (λ q. provided (matches c q) tt) (l .live)) (look (λ q. provided (matches c q) tt) (l .live)) h)
       h)
@@ -185,7 +201,8 @@ overdue-ends-first l t b a q since among waits late none-before = rw (oldest-her
     overdue : overdueIn t (q .state) ≡ some tt
     overdue = rw (waits, le-leb responseTime (t - since) (omega arith))
 
-    find : (b : List Request) → All (λ x. overdueIn t (x .state) ≡ none) b → oldest (λ x. overdueIn t (x .state)) (b ++ (q ∷ a)) ≡ somebody b q tt a
+    find : (b : List Request) → All (λ x. overdueIn t (x .state) ≡ none) b
+        → oldest (λ x. overdueIn t (x .state)) (b ++ (q ∷ a)) ≡ somebody b q tt a
     find b h = find-oldest (λ x. overdueIn t (x .state)) b a q overdue h
 
     oldest-here : l .live ≡ b ++ (q ∷ a) → oldest (λ x. overdueIn t (x .state)) (l .live) ≡ somebody b q tt a

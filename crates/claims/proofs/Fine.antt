@@ -19,7 +19,7 @@ use Rattle.ledger.specs.Receiving.{flies}
 use Rattle.ledger.specs.Calls.{Call}
 use Rattle.ledger.specs.Refusals.{some-of, isOutside, twoEqual, fliesOnce, flights, wronglyOften, waitsForNothing, isLate, malformed}
 use Rattle.claims.proofs.Cases.{by-test}
-use Rattle.claims.specs.Clauses.{All}
+use Rattle.claims.specs.Clauses.{All, Enough}
 use Rattle.claims.proofs.Lists.{all-map, all-append, all-left, all-right}
 use Rattle.claims.proofs.FreeId.{Unreserved, after-unreserved, first-free, free-unreserved}
 use Rattle.claims.proofs.Views.{Turn, acknowledges, marks, starts, sends-again, Change, stays, joins, leaves, turns, rests-free, rests-busy, View, refuses, accepts}
@@ -86,7 +86,8 @@ less-live id b a q h =
     let parts = neither (isLive id b) (isLive id (q ∷ a)) (sym (live-append id b (q ∷ a)) ∙ h) in
     live-append id b a ∙ rw (parts .0, neither (eqb (q .id) id) (isLive id a) (parts .1) .1)
 
-same-live : (id : ℕ) (s : State) (b a : List Request) (q : Request) → isLive id (b ++ (withState s q ∷ a)) ≡ isLive id (b ++ (q ∷ a))
+same-live : (id : ℕ) (s : State) (b a : List Request) (q : Request)
+    → isLive id (b ++ (withState s q ∷ a)) ≡ isLive id (b ++ (q ∷ a))
 unfolding isLive
 same-live id s [] a q = refl
 same-live id s (x ∷ b) a q = ap (eqb (x .id) id ||_) (same-live id s b a q)
@@ -104,8 +105,11 @@ unfolding isLive
 distinct-more [] q new h = (refl, tt)
 distinct-more (x ∷ live) q new h =
     let parts = neither (eqb (x .id) (q .id)) (isLive (q .id) live) new in
-    let apart = eqb-false (x .id) (q .id) (parts .0) in
-    (live-append (x .id) live (q ∷ []) ∙ rw (h .0, ne-eqb (q .id) (x .id) (λ e. apart (sym e))), distinct-more live q (parts .1) (h .1))
+    let apart = eqb-false (x .id) (q .id) (parts .0) in (
+      live-append (x .id) live (q ∷ []) ∙ rw (h .0, ne-eqb (q .id) (x .id) (λ e. apart (sym e))),
+      distinct-more live q (parts .1)
+          (h .1),
+    )
 
 -- time goes on
 pub later : {r t t' : ℕ} → t ≤ t' → (q : Request) → Sound r t q → Sound r t' q
@@ -137,7 +141,8 @@ pub record Turned (t : ℕ) (q : Request) (from to : State) : Type 0 where
   pub steady : Steady t (q .wanted) to
   pub lighter : (fliesOnce to ≤ fliesOnce from) ⊎ ((from ≡ queued) × (fliesOnce to ≡ 1))
 
-pub turned : (l : Ledger) (t : ℕ) (q : Request) {from to : State} {frame : Option (List ℕ)} → Turn l t q from to frame → Steady t (q .wanted) from
+pub turned : (l : Ledger) (t : ℕ) (q : Request) {from to : State} {frame : Option (List ℕ)} → Turn l t q from to frame
+    → Steady t (q .wanted) from
     → Turned t q from to
 turned l t q (acknowledges wanted) h = record { steady = (wanted, omega arith); lighter = inl (omega arith) }
 turned l t q marks h = record { steady = h; lighter = inl (omega arith) }
@@ -198,14 +203,11 @@ module _ {limit r t : ℕ} where
       let steady : Steady t (q .wanted) (q .state) = rw new tt in
       record {
         few = omega (arith, room);
-        each = all-append (Sound r t) live (q ∷ []) (h .each) (record { unreserved = unreserved; short = short; steady = steady }, tt);
+        each = all-append (Sound r t) live (q ∷ []) (h .each)
+            (record { unreserved = unreserved; short = short; steady = steady }, tt);
         distinct = distinct-more live q free (h .distinct);
         one = omega arith;
       }
-
--- the limit leaves IDs enough: there are more than may be live
-abbrev pub Enough : (limit : ℕ) → Type 0
-Enough limit = limit + reservedMax < lastId
 
 module _ (limit : ℕ) (enough : Enough limit) where
   pub issued-free : (l : Ledger) → Fine limit l → (length (l .live) ≡ limit → ⊥) → isLive (issued l) (l .live) ≡ false
@@ -214,13 +216,20 @@ module _ (limit : ℕ) (enough : Enough limit) where
       let few = h .fit .few in
       first-free (l .reserved) (omega arith) (length (l .live)) (l .live) (omega arith) (omega (arith, room)) (h .next)
 
-  pub fit-change : (l : Ledger) {t : ℕ} {d : Done} → Fine limit l → l .clock ≤ t → Change limit l t d → Fit limit (l .reserved) t (d .next .live)
+  pub fit-change : (l : Ledger) {t : ℕ} {d : Done} → Fine limit l → l .clock ≤ t → Change limit l t d
+      → Fit limit (l .reserved) t (d .next .live)
   fit-change l {t} h go-on change = go change
     where
       now : Fit limit (l .reserved) t (l .live)
       now =
           let fit = h .fit in
-          record { few = fit .few; each = all-map (Sound (l .reserved) (l .clock)) (Sound (l .reserved) t) (later go-on) (l .live) (fit .each); distinct = fit .distinct; one = fit .one }
+          record {
+            few = fit .few;
+            each = all-map (Sound (l .reserved) (l .clock)) (Sound (l .reserved) t) (later go-on) (l .live)
+                (fit .each);
+            distinct = fit .distinct;
+            one = fit .one;
+          }
 
       small : l .reserved < lastId
       small = let small = h .small in omega arith
@@ -233,7 +242,8 @@ module _ (limit : ℕ) (enough : Enough limit) where
       go (turns b a q s frame among turn first shows e) =
           rw e (fit-turn l b a q turn (λ new. ap flights (sym among) ∙ none-flying (l .live) (first new .0)) (rw among at now))
       go (joins q new named short room shows e) =
-          rw e (fit-more (l .live) q new (rw named (free-unreserved (l .reserved) small (length (l .live)) (l .live) (h .next))) short
+          rw e (fit-more (l .live) q new (rw named (free-unreserved (l .reserved) small (length (l .live)) (l .live) (h .next)))
+          short
           (rw named (issued-free l h room)) room now)
 
   pub fine-step : (l : Ledger) (c : Call) {d : Done} → Fine limit l → View limit l c d → Fine limit (d .next)
@@ -256,7 +266,8 @@ module _ (limit : ℕ) (enough : Enough limit) where
           rw e (after-unreserved (l .reserved) below (free-unreserved (l .reserved) below (length (l .live)) (l .live) (h .next)))
 
 -- none of the malformed rule's clauses holds
-none-of : (test : Request → Bool) (P : Request → Type 0) → ((q : Request) → P q → test q ≡ false) → (live : List Request) → All P live
+none-of : (test : Request → Bool) (P : Request → Type 0) → ((q : Request) → P q → test q ≡ false) → (live : List Request)
+    → All P live
     → some-of test live ≡ false
 unfolding some-of
 none-of test P f [] h = refl
@@ -299,7 +310,8 @@ not-malformed limit l h =
       le-ltb 1 (flights (l .live)) (h .fit .one),
       none-of (λ q. wronglyOften (q .state)) P (λ q k. rightly-often (l .clock) (q .wanted) (q .state) (k .steady)) (l .live) each,
       none-of (λ q. ltb maxData (length (q .bytes))) P (λ q k. le-ltb maxData (length (q .bytes)) (k .short)) (l .live) each,
-      none-of (λ q. waitsForNothing (q .wanted) (q .state)) P (λ q k. waits-for-one (l .clock) (q .wanted) (q .state) (k .steady)) (l .live) each,
+      none-of (λ q. waitsForNothing (q .wanted) (q .state)) P (λ q k. waits-for-one (l .clock) (q .wanted) (q .state) (k .steady))
+          (l .live) each,
       none-of (λ q. isLate (l .clock) (q .state)) P (λ q k. in-time (l .clock) (q .wanted) (q .state) (k .steady)) (l .live) each,
       le-ltb heldMax (length (l .held)) (h .held),
     )

@@ -27,14 +27,16 @@ unfolding removed
 fewer id [] = omega arith
 fewer id (q ∷ qs) =
     let rest = fewer id qs in
-    by-test (λ b. length (if b (removed id qs) (q ∷ removed id qs)) ≤ suc (length qs)) (eqb (q .id) id) (λ e. omega arith) (λ e. omega arith)
+    by-test (λ b. length (if b (removed id qs) (q ∷ removed id qs)) ≤ suc (length qs)) (eqb (q .id) id) (λ e. omega arith)
+    (λ e. omega arith)
 
 one-fewer : (id : ℕ) (qs : List Request) → isLive id qs ≡ true → suc (length (removed id qs)) ≤ length qs
 unfolding isLive removed
 one-fewer id [] h = let z : _≡_ {A = ℕ} 0 1 = cc in absurd (omega arith)
 one-fewer id (q ∷ qs) h =
     let few = fewer id qs in
-    by-test (λ b. b || isLive id qs ≡ true → suc (length (if b (removed id qs) (q ∷ removed id qs))) ≤ suc (length qs)) (eqb (q .id) id)
+    by-test (λ b. b || isLive id qs ≡ true → suc (length (if b (removed id qs) (q ∷ removed id qs))) ≤ suc (length qs))
+    (eqb (q .id) id)
     (λ e h. omega arith)
     (λ e h. let rest = one-fewer id qs h in omega arith)
     h
@@ -91,7 +93,8 @@ module _ (r : ℕ) (small : r < lastId) where
       let n-less : n + suc k + r < lastId = omega arith in
       let rest = agree n u qs (omega arith) n-less (step-on u k-less a) in
       rw (others-stay id x (away p k-less a) qs)
-      (by-test (λ b. Same id (if b (firstFree n r qs (idAfter r x)) x) (if b (firstFree n r (removed id qs) (idAfter r x)) x)) (isLive x qs)
+      (by-test (λ b. Same id (if b (firstFree n r qs (idAfter r x)) x) (if b (firstFree n r (removed id qs) (idAfter r x)) x))
+      (isLive x qs)
       (λ e. rest)
       (λ e. record { same = refl; other = away p k-less a }))
 

@@ -4,7 +4,7 @@ use Prim.Native.Nat.{ℕ}
 use mathlib.Core.Bool.{false}
 use mathlib.Core.List.{List}
 use mathlib.Core.Option.{some}
-use mathlib.Core.Path.{_≡_}
+use mathlib.Core.Path.{_≡_, refl}
 use native.Mathlib.Omega.{arith}
 use lib.ListN.{length}
 use Rattle.ledger.specs.Parts.{liveMax, Ledger}
@@ -14,10 +14,10 @@ use Rattle.ledger.specs.Calls.{Call, lentBy}
 use Rattle.ledger.specs.Refusals.{refusal}
 use Rattle.ledger.specs.Runs.{step, start, reservedFor, run}
 use Rattle.claims.specs.Trace.{liveAfter}
-use Rattle.claims.specs.Clauses.{Kept, Holds}
+use Rattle.claims.specs.Clauses.{Kept, Holds, Enough, longest}
 use Rattle.ledger.specs.Examples.{AreTrue, table}
 use Rattle.claims.proofs.Fine as fine
-use Rattle.claims.proofs.Fine.{Fine, Enough, not-malformed}
+use Rattle.claims.proofs.Fine.{Fine, not-malformed}
 use Rattle.claims.proofs.Along.{start-good, good-run}
 use Rattle.claims.proofs.Bound.{always-bounded}
 use Rattle.claims.proofs.Shown.{same-ids, same-length, all-unreserved, all-distinct, reserved-stays}
@@ -25,7 +25,8 @@ use Rattle.claims.proofs.Refused as refused
 use Rattle.ledger.proofs.Examples as examples
 
 -- "The ID is the first one not live": the one that is issued is not
-pub issued-free : (limit : ℕ) → Enough limit → (l : Ledger) → Fine limit l → (length (l .live) ≡ limit → ⊥) → isLive (issued l) (l .live) ≡ false
+pub issued-free : (limit : ℕ) → Enough limit → (l : Ledger) → Fine limit l → (length (l .live) ≡ limit → ⊥)
+    → isLive (issued l) (l .live) ≡ false
 issued-free limit enough l h room = fine.issued-free limit enough l h room
 
 -- "gets its number there, and the ledger stays", buffers unchanged: a refused call is one that the table refuses, with that number
@@ -37,7 +38,8 @@ pub refused-changes-nothing : (limit : ℕ) (l : Ledger) (c : Call) (n : ℕ) �
 refused-changes-nothing limit l c n h = refused.changes-nothing limit l c n h
 
 -- "What demand 3 compares", of calls and outcomes alone
-pub demand-3 : (limit : ℕ) → Enough limit → (given : ℕ) (cs : List Call) → Kept limit (reservedFor given) (run limit (start given) cs .past)
+pub demand-3 : (limit : ℕ) → Enough limit → (given : ℕ) (cs : List Call)
+    → Kept limit (reservedFor given) (run limit (start given) cs .past)
 demand-3 limit enough given cs =
     let s = run limit (start given) cs in
     let good = good-run limit enough (start given) cs (start-good limit given) in
@@ -53,12 +55,14 @@ demand-3 limit enough given cs =
       alike = good .told .few;
       few = omega (arith, same-length h live (s .ledger .live) owners);
       distinct = all-distinct h live (s .ledger .live) (fit .distinct) owners;
-      unreserved = rw (reserved-stays limit (start given) cs) at (all-unreserved (s .ledger .reserved) (s .ledger .clock) h live (s .ledger .live) (fit .each) owners);
+      unreserved = rw (reserved-stays limit (start given) cs) at
+          (all-unreserved (s .ledger .reserved) (s .ledger .clock) h live (s .ledger .live) (fit .each) owners);
       inTime = always-bounded limit enough given cs;
     }
 
 -- and of the ledger itself
-pub ledger-sound : (limit : ℕ) → Enough limit → (given : ℕ) (cs : List Call) → Holds limit (reservedFor given) (run limit (start given) cs)
+pub ledger-sound : (limit : ℕ) → Enough limit → (given : ℕ) (cs : List Call)
+    → Holds limit (reservedFor given) (run limit (start given) cs)
 ledger-sound limit enough given cs =
     let s = run limit (start given) cs in
     let good = good-run limit enough (start given) cs (start-good limit given) in
@@ -78,6 +82,10 @@ ledger-sound limit enough given cs =
 -- both for the number of document 01, three
 pub three-are-few : Enough liveMax
 three-are-few = omega arith
+
+-- "T + 12,000"
+pub twelve-seconds : longest liveMax ≡ 12000
+twelve-seconds = refl
 
 pub demand-3-of-three : (given : ℕ) (cs : List Call) → Kept liveMax (reservedFor given) (run liveMax (start given) cs .past)
 demand-3-of-three given cs = demand-3 liveMax three-are-few given cs

@@ -1,4 +1,5 @@
--- The live requests of the ledger are those that the list of calls shows, one by one: each with the same ID, not ended, and with the
+-- The live requests of the ledger are those that the list of calls shows, one by one: each with the same ID, not ended, and with
+-- the
 -- frames that its state says were sent.
 use Prim.Native.Nat.{ℕ, suc, _≤_}
 use mathlib.Core.Bool.{Bool, false, _||_}
@@ -61,7 +62,8 @@ abbrev pub sentMore : Option (List ℕ) → List (List ℕ) → List (List ℕ)
 sentMore none fs = fs
 sentMore (some f) fs = f ∷ fs
 
-pub sent-turn : (l : Ledger) (t : ℕ) (q : Request) {from to : State} {frame : Option (List ℕ)} (fs : List (List ℕ)) → Turn l t q from to frame
+pub sent-turn : (l : Ledger) (t : ℕ) (q : Request) {from to : State} {frame : Option (List ℕ)} (fs : List (List ℕ))
+    → Turn l t q from to frame
     → Steady t (q .wanted) from → Sent q from fs → Sent q to (sentMore frame fs)
 sent-turn l t q fs (acknowledges {f} wanted) steady sent = few-sent t (q .wanted) q (inFlight f) fs steady sent
 sent-turn l t q fs marks steady sent = sent
@@ -109,7 +111,11 @@ pub owners-kept : (h h' : List Entry) (P : Request → Type 0) → ((x : Asked) 
 owners-kept h h' P keep [] [] all own = tt
 owners-kept h h' P keep [] (q ∷ qs) all own = absurd own
 owners-kept h h' P keep (x ∷ live) [] all own = absurd own
-owners-kept h h' P keep (x ∷ live) (q ∷ qs) all own = (keep x q (all .0) (own .0), owners-kept h h' P keep live qs (all .1) (own .1))
+owners-kept h h' P keep (x ∷ live) (q ∷ qs) all own = (
+  keep x q (all .0) (own .0),
+  owners-kept h h' P keep live qs (all .1)
+      (own .1),
+)
 
 -- where one joins
 pub owners-join : (h : List Entry) (live : List Asked) (qs : List Request) (x : Asked) (q : Request) → Owners h live qs → Own h x q
@@ -135,7 +141,8 @@ module _ (h h' : List Entry) (q : Request) (keep : (x : Asked) (y : Request) →
         ne-eqb (gone .place) (x .place) (λ same. apart (sym (one-name (q .id) (y .id) h its (own .last) same)))
 
     -- where one leaves, its owner leaves
-    owners-after : (live : List Asked) (a : List Request) → All (Apart q) a → Owners h live a → Owners h' (without (some gone) live) a
+    owners-after : (live : List Asked) (a : List Request) → All (Apart q) a → Owners h live a
+        → Owners h' (without (some gone) live) a
     unfolding without
     owners-after [] [] apart own = tt
     owners-after [] (y ∷ a) apart own = absurd own

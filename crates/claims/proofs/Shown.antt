@@ -18,7 +18,8 @@ use Rattle.claims.proofs.Owners.{Own, Owners, not-live}
 same-id : {h : List Entry} {a : Asked} {q : Request} → Own h a q → a .id ≡ q .id
 same-id {h} {a} {q} own = asked-before (q .id) h (own .last) .named
 
-pub same-ids : (h : List Entry) (live : List Asked) (qs : List Request) → Owners h live qs → map (λ q. q .id) qs ≡ map (λ a. a .id) live
+pub same-ids : (h : List Entry) (live : List Asked) (qs : List Request) → Owners h live qs
+    → map (λ q. q .id) qs ≡ map (λ a. a .id) live
 same-ids h [] [] own = refl
 same-ids h [] (q ∷ qs) own = absurd own
 same-ids h (a ∷ live) [] own = absurd own
@@ -53,8 +54,11 @@ pub all-distinct : (h : List Entry) (live : List Asked) (qs : List Request) → 
 all-distinct h [] [] distinct own = tt
 all-distinct h [] (q ∷ qs) distinct own = absurd own
 all-distinct h (a ∷ live) [] distinct own = absurd own
-all-distinct h (a ∷ live) (q ∷ qs) distinct own =
-    (rw (same-id (own .0)) (apart h (q .id) live qs (not-live (q .id) qs (distinct .0)) (own .1)), all-distinct h live qs (distinct .1) (own .1))
+all-distinct h (a ∷ live) (q ∷ qs) distinct own = (
+  rw (same-id (own .0)) (apart h (q .id) live qs (not-live (q .id) qs (distinct .0)) (own .1)),
+  all-distinct h live qs
+      (distinct .1) (own .1),
+)
 
 -- R stays
 pub reserved-stays : (limit : ℕ) (s : Run) (cs : List Call) → run limit s cs .ledger .reserved ≡ s .ledger .reserved

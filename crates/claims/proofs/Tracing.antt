@@ -39,7 +39,8 @@ nothing-belongs ended sent = record {
 }
 
 -- a request at another place stays
-stays-among : (gone y : Asked) → eqb (gone .place) (y .place) ≡ false → (live : List Asked) → y ∈ live → y ∈ without (some gone) live
+stays-among : (gone y : Asked) → eqb (gone .place) (y .place) ≡ false → (live : List Asked) → y ∈ live
+    → y ∈ without (some gone) live
 unfolding without
 stays-among gone y other (x ∷ live) here = rw other here
 stays-among gone y other (x ∷ live) (there among) =
@@ -49,7 +50,8 @@ stays-among gone y other (x ∷ live) (there among) =
 
 module _ (e : Entry) (h : List Entry) where
   -- a request keeps its owner, where nothing of it is shown
-  own-kept : (x : Asked) (q : Request) → lastAsked (q .id) (e ∷ h) ≡ lastAsked (q .id) h → endings (x .place) (e ∷ h) ≡ endings (x .place) h
+  own-kept : (x : Asked) (q : Request) → lastAsked (q .id) (e ∷ h) ≡ lastAsked (q .id) h
+      → endings (x .place) (e ∷ h) ≡ endings (x .place) h
       → frames (x .place) (e ∷ h) ≡ frames (x .place) h → Own h x q → Own (e ∷ h) x q
   own-kept x q same-last same-ends same-sent own =
       record { last = same-last ∙ own .last; open-still = same-ends ∙ own .open-still; sent = rw same-sent (own .sent) }
@@ -77,16 +79,19 @@ module _ (e : Entry) (h : List Entry) where
       anything (q ∷ qs) = (tt, anything qs)
 
   pub told-join : (live : List Request) (q : Request) → q .state ≡ queued → isLive (q .id) live ≡ false
-      → idIn (e .answer) ≡ some (q .id) → endingIn (e .answer) ≡ none → frameIn e ≡ none → Told h live → Told (e ∷ h) (live ++ (q ∷ []))
+      → idIn (e .answer) ≡ some (q .id) → endingIn (e .answer) ≡ none → frameIn e ≡ none → Told h live
+      → Told (e ∷ h) (live ++ (q ∷ []))
   told-join live q new free asked ended sent told =
       let more = live-joins e h asked ended in
       let its : Asked = askedAs e (length h) (q .id) in
       let not-yet = ends-none e h (length h) ended ∙ none-ended h (length h) (omega arith) in
-      let unsent : Sent q (q .state) (frames (length h) (e ∷ h)) = rw new (sends-none e h (length h) sent ∙ none-sent h (length h) (omega arith)) in
+      let unsent : Sent q (q .state) (frames (length h) (e ∷ h)) =
+      rw new (sends-none e h (length h) sent ∙ none-sent h (length h) (omega arith)) in
       record {
         owners = rw more (owners-join (e ∷ h) (liveAfter h) live its q
             (owners-kept h (e ∷ h) (Apart q) (λ x y apart own.
-            own-kept x y (asks-other e h (y .id) asked (λ same. apart (sym same))) (ends-none e h (x .place) ended) (sends-none e h (x .place) sent) own)
+            own-kept x y (asks-other e h (y .id) asked (λ same. apart (sym same))) (ends-none e h (x .place) ended)
+            (sends-none e h (x .place) sent) own)
             (liveAfter h) live (not-live (q .id) live free) (told .owners))
             (record { last = asks-it e h asked; open-still = not-yet; sent = unsent }));
         once = λ k. rw (ends-none e h k ended) (told .once k);
@@ -100,7 +105,8 @@ module _ (e : Entry) (h : List Entry) where
     where
       older : liveAfter (e ∷ h) ≡ liveAfter h ++ (askedAs e (length h) (q .id) ∷ []) → (a : Asked) → Fate h a → Fate (e ∷ h) a
       older more a (is-live among not-yet) =
-          is-live (rw more (in-left a (liveAfter h) (askedAs e (length h) (q .id) ∷ []) among)) (ends-none e h (a .place) ended ∙ not-yet)
+          is-live (rw more (in-left a (liveAfter h) (askedAs e (length h) (q .id) ∷ []) among))
+          (ends-none e h (a .place) ended ∙ not-yet)
       older more a (has-ended once) = has-ended (ends-none e h (a .place) ended ∙ once)
 
   -- a request leaves with an ending that names it
@@ -116,14 +122,16 @@ module _ (e : Entry) (h : List Entry) where
       record {
         owners = rw less (owners-leave h (e ∷ h) q (λ y r away kept.
             own-kept y r (asks-none e h (r .id) asked)
-            (ends-one e h (y .place) ended last ∙ rw (ne-eqb (gone .place) (y .place) (λ same. away (sym (one-name (q .id) (r .id) h (own .last) (kept .last) same)))) (omega arith))
+            (ends-one e h (y .place) ended last ∙ rw (ne-eqb (gone .place) (y .place)
+            (λ same. away (sym (one-name (q .id) (r .id) h (own .last) (kept .last) same)))) (omega arith))
             (sends-none e h (y .place) sent) kept)
             gone (own .last) (liveAfter h) b a (apart .0) (apart .1) (told .owners));
         once = ended-once gone (own .open-still) last;
         few = λ k. rw (sends-none e h k sent) (told .few k);
         belongs = (
           record {
-            ending = λ y named'. (let same : x .id ≡ y .id = cc in record { request = gone; last = rw (sym same) last; live = its .2 });
+            ending = λ y named'. (let same : x .id ≡ y .id =
+                cc in record { request = gone; last = rw (sym same) last; live = its .2 });
             frame = λ bytes named'. (let z : _≡_ {A = ℕ} 0 1 = cc in absurd (omega arith));
           },
           told .belongs,
@@ -140,10 +148,12 @@ module _ (e : Entry) (h : List Entry) where
           (λ t. let none : endings k h ≡ 0 = rw (sym (eqb-true (gone .place) k t)) not-yet in omega arith)
           (λ t. omega arith))
 
-      fate : (gone : Asked) → endings (gone .place) h ≡ 0 → lastAsked (x .id) h ≡ some gone → liveAfter (e ∷ h) ≡ without (some gone) (liveAfter h)
+      fate : (gone : Asked) → endings (gone .place) h ≡ 0 → lastAsked (x .id) h ≡ some gone
+          → liveAfter (e ∷ h) ≡ without (some gone) (liveAfter h)
           → (y : Asked) → Fate h y → Fate (e ∷ h) y
       fate gone not-yet last less y (is-live among open-still) =
-          by-test (λ t. eqb (gone .place) (y .place) ≡ t → endings (y .place) (e ∷ h) ≡ (if t 1 0) + endings (y .place) h → Fate (e ∷ h) y)
+          by-test (λ t. eqb (gone .place) (y .place) ≡ t → endings (y .place) (e ∷ h) ≡ (if t 1 0) + endings (y .place) h
+          → Fate (e ∷ h) y)
           (eqb (gone .place) (y .place))
           (λ t k count. has-ended (omega arith))
           (λ t k count. is-live (rw less (stays-among gone y k (liveAfter h) among)) (omega arith))
@@ -180,7 +190,8 @@ module _ (e : Entry) (h : List Entry) where
         let named : lastAsked (namedBy bytes) h ≡ some x = rw (turn-names turn refl) last in
         sends-one e h k sent named ∙ rw (ne-eqb (x .place) k away)
 
-    pub told-turn : (b a : List Request) (s : State) (frame : Option (List ℕ)) → Distinct (b ++ (q ∷ a)) → Turn l t q (q .state) s frame
+    pub told-turn : (b a : List Request) (s : State) (frame : Option (List ℕ)) → Distinct (b ++ (q ∷ a))
+        → Turn l t q (q .state) s frame
         → Steady t (q .wanted) (q .state) → Steady t (q .wanted) s → idIn (e .answer) ≡ none → endingIn (e .answer) ≡ none
         → frameIn e ≡ frame → Told h (b ++ (q ∷ a)) → Told (e ∷ h) (b ++ (withState s q ∷ a))
     told-turn b a s frame distinct turn was now asked ended sent told =
@@ -192,11 +203,14 @@ module _ (e : Entry) (h : List Entry) where
         record {
           owners = rw same (owners-turn h (e ∷ h) q
               (λ y r away kept. own-kept y r (asks-none e h (r .id) asked) (ends-none e h (y .place) ended)
-              (frames-there frame turn sent (own .last) (y .place) (λ k. away (sym (one-name (q .id) (r .id) h (own .last) (kept .last) k)))) kept)
+              (frames-there frame turn sent (own .last) (y .place)
+              (λ k. away (sym (one-name (q .id) (r .id) h (own .last) (kept .last) k)))) kept)
               s (λ y kept. record {
                 last = asks-none e h (q .id) asked ∙ kept .last;
                 open-still = ends-none e h (y .place) ended ∙ kept .open-still;
-                sent = rw (frames-here frame turn sent (kept .last) (y .place) refl) (sent-same q s s (sentMore frame (frames (y .place) h)) (sent-turn l t q (frames (y .place) h) turn was (kept .sent)));
+                sent = rw (frames-here frame turn sent (kept .last) (y .place) refl)
+                    (sent-same q s s (sentMore frame (frames (y .place) h))
+                    (sent-turn l t q (frames (y .place) h) turn was (kept .sent)));
               })
               (liveAfter h) b a (apart .0) (apart .1) (told .owners));
           once = λ k. rw (ends-none e h k ended) (told .once k);
@@ -217,7 +231,9 @@ module _ (e : Entry) (h : List Entry) where
             by-test (λ at. eqb (x .place) k ≡ at → Few (frames k (e ∷ h))) (eqb (x .place) k)
             (λ at k-at.
             let place = eqb-true (x .place) k k-at in
-            let sent-now : Sent q s (sentMore frame (frames k h)) = sent-turn l t q (frames k h) turn was (rw (sym place) (own .sent)) in
-            rw (frames-here frame turn sent (own .last) k place) (few-sent t (q .wanted) q s (sentMore frame (frames k h)) now sent-now))
+            let sent-now : Sent q s (sentMore frame (frames k h)) =
+            sent-turn l t q (frames k h) turn was (rw (sym place) (own .sent)) in
+            rw (frames-here frame turn sent (own .last) k place)
+            (few-sent t (q .wanted) q s (sentMore frame (frames k h)) now sent-now))
             (λ at k-at. rw (frames-there frame turn sent (own .last) k (eqb-false (x .place) k k-at)) (told .few k))
             refl

@@ -18,19 +18,18 @@ use Rattle.ledger.specs.Answers.{quiet, refused, submitted, polled, Done, Endin
 use Rattle.ledger.specs.Receiving.{flies}
 use Rattle.ledger.specs.Polling.{overdueIn, queuedIn, frameBytes}
 use Rattle.ledger.specs.Calls.{Call, submit, poll, readingOf}
-use Rattle.ledger.specs.Refusals.{some-of, twoEqual, flights, malformed, firstOf, lines, refusal}
+use Rattle.ledger.specs.Refusals.{some-of, twoEqual, flights, malformed, firstOf, refusal}
 use Rattle.ledger.specs.Runs.{step, Run, start, then, run}
 use Rattle.claims.specs.Trace.{Asked, endingIn, frames, lastAsked, liveAfter}
-use Rattle.claims.specs.Clauses.{All}
+use Rattle.claims.specs.Clauses.{All, Enough}
 use Rattle.ledger.specs.Examples.{zeros}
 use Rattle.claims.proofs.Views.{stays, joins, leaves, turns, rests-free, rests-busy, View, refuses, accepts, view}
 use Rattle.claims.proofs.Owners.{Sent, owner-of}
-use Rattle.claims.proofs.Fine.{Enough}
 use Rattle.claims.proofs.Along.{Good, start-good, good-run, good-step}
 
 -- 1. "one that refuses everything": a refused call is one that the table refuses (`refused-by-table`), and it does not refuse this
 pub does-not-refuse-all : refusal liveMax (fresh 38) (poll (zeros (total maxLen)) 0) ≡ none
-unfolding lines firstOf malformed some-of twoEqual flights
+unfolding firstOf malformed some-of twoEqual flights
 does-not-refuse-all = refl
 
 -- 2. "one that answers *more* .. always": *more* is answered only where all bytes together decide no item
@@ -38,9 +37,11 @@ pub more-when-undecided : (held new : List ℕ) {i : Item} {d r : ℕ} → scan 
     → line.receive held new .answer ≡ item i
 more-when-undecided held new decides = item-of-all held new ∙ rw decides
 
--- ".. or *quiet* always": quiet is answered only where none is overdue, and none is in flight or queued or the one in flight is not due
+-- ".. or *quiet* always": quiet is answered only where none is overdue, and none is in flight or queued or the one in flight is
+-- not due
 pub data Nothing-to-do (t : ℕ) (live : List Request) : Type 0 where
-  all-wait : All (λ q. overdueIn t (q .state) ≡ none) live → All (λ q. flies q ≡ none) live → All (λ q. queuedIn (q .state) ≡ none) live
+  all-wait : All (λ q. overdueIn t (q .state) ≡ none) live → All (λ q. flies q ≡ none) live
+      → All (λ q. queuedIn (q .state) ≡ none) live
       → Nothing-to-do t live
   one-flies : All (λ q. overdueIn t (q .state) ≡ none) live → (b a : List Request) (q : Request) (f : Frame) → live ≡ b ++ (q ∷ a)
       → q .state ≡ inFlight f → due f t ≡ false → Nothing-to-do t live
@@ -84,21 +85,24 @@ submit-does-something limit l c id h = go (step limit l c) (view limit l c) h
 
 -- 4. "one that reports all endings in the first call": the first call of a list reports none, since an ending belongs to a request
 -- before it (`demand-3`, field `belong`)
-pub first-call-ends-nothing : (limit : ℕ) → Enough limit → (given : ℕ) (c : Call) → endingIn (step limit (start given .ledger) c .answer) ≡ none
+pub first-call-ends-nothing : (limit : ℕ) → Enough limit → (given : ℕ) (c : Call)
+    → endingIn (step limit (start given .ledger) c .answer) ≡ none
 unfolding lastAsked
 first-call-ends-nothing limit enough given c = go (endingIn (step limit (start given .ledger) c .answer)) refl
   where
     good : Good limit (then limit (start given) c)
     good = good-step limit enough (start given) c (start-good limit given)
 
-    go : (o : Option Ending) → endingIn (step limit (start given .ledger) c .answer) ≡ o → endingIn (step limit (start given .ledger) c .answer) ≡ none
+    go : (o : Option Ending) → endingIn (step limit (start given .ledger) c .answer) ≡ o
+        → endingIn (step limit (start given .ledger) c .answer) ≡ none
     go none e = e
     go (some x) e =
         let owner = good .told .belongs .0 .ending x e in
         let last = owner .last in
         let z : _≡_ {A = ℕ} 0 1 = cc in absurd (omega arith)
 
--- 5. "one whose transmission count is invented": the count of a frame in flight is how many frames polls have put in their output for
+-- 5. "one whose transmission count is invented": the count of a frame in flight is how many frames polls have put in their output
+-- for
 -- its request
 pub record Counted (s : Run) (q : Request) (f : Frame) : Type 0 where
   pub request : Asked
@@ -111,7 +115,8 @@ counts-frames limit enough given cs b a q f among flying =
     let s = run limit (start given) cs in
     let good = good-run limit enough (start given) cs (start-good limit given) in
     let its = owner-of (s .past) (liveAfter (s .past)) b a q (rw among at (good .told .owners)) in
-    let sent : frames (its .0 .place) (s .past) ≡ replicate (f .transmissions) (frameBytes q (f .seq)) = subst (λ x. Sent q x (frames (its .0 .place) (s .past))) flying (its .1 .sent) in
+    let sent : frames (its .0 .place) (s .past) ≡ replicate (f .transmissions) (frameBytes q (f .seq)) =
+    subst (λ x. Sent q x (frames (its .0 .place) (s .past))) flying (its .1 .sent) in
     record {
       request = its .0;
       last = its .1 .last;

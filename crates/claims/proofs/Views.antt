@@ -51,7 +51,8 @@ quietIn (received r) = none
 quietIn (polled p) = quietOf p
 
 -- what an outcome shows of requests: an ID issued, an ending, a frame, a quiet time
-pub record Shows (d : Done) (asked : Option ℕ) (ending : Option Ending) (frame : Option (List ℕ)) (silence : Option (Option ℕ)) : Type 0 where
+pub record Shows (d : Done) (asked : Option ℕ) (ending : Option Ending) (frame : Option (List ℕ))
+    (silence : Option (Option ℕ)) : Type 0 where
   pub asks : idIn (d .answer) ≡ asked
   pub ends : endingIn (d .answer) ≡ ending
   pub sends : sentIn (d .answer) (first (d .buffers)) ≡ frame
@@ -71,7 +72,8 @@ pub data Change (limit : ℕ) (l : Ledger) (t : ℕ) (d : Done) : Type 0 where
       → Shows d (some (q .id)) none none none → d .next .live ≡ l .live ++ (q ∷ []) → Change limit l t d
   leaves : (b a : List Request) (q : Request) (x : Ending) → l .live ≡ b ++ (q ∷ a) → x .id ≡ q .id
       → Shows d none (some x) none none → d .next .live ≡ b ++ a → Change limit l t d
-  turns : (b a : List Request) (q : Request) (s : State) (frame : Option (List ℕ)) → l .live ≡ b ++ (q ∷ a) → Turn l t q (q .state) s frame
+  turns : (b a : List Request) (q : Request) (s : State) (frame : Option (List ℕ)) → l .live ≡ b ++ (q ∷ a)
+      → Turn l t q (q .state) s frame
       -- a request is sent first where none is in flight, and it is the oldest queued
       → (q .state ≡ queued → All (λ x. flies x ≡ none) (l .live) × All (λ x. queuedIn (x .state) ≡ none) b)
       → Shows d none none frame none → d .next .live ≡ b ++ (withState s q ∷ a) → Change limit l t d
@@ -116,8 +118,10 @@ queued-state (inFlight g) h = let z : _≡_ {A = ℕ} 0 1 = cc in absurd (omega 
 queued-state (waiting since) h = let z : _≡_ {A = ℕ} 0 1 = cc in absurd (omega arith)
 
 -- what else an outcome says does not matter
-alike : {limit t : ℕ} {l : Ledger} {d d' : Done} → idIn (d' .answer) ≡ idIn (d .answer) → endingIn (d' .answer) ≡ endingIn (d .answer)
-    → sentIn (d' .answer) (first (d' .buffers)) ≡ sentIn (d .answer) (first (d .buffers)) → quietIn (d' .answer) ≡ quietIn (d .answer)
+alike : {limit t : ℕ} {l : Ledger} {d d' : Done} → idIn (d' .answer) ≡ idIn (d .answer)
+    → endingIn (d' .answer) ≡ endingIn (d .answer)
+    → sentIn (d' .answer) (first (d' .buffers)) ≡ sentIn (d .answer) (first (d .buffers))
+    → quietIn (d' .answer) ≡ quietIn (d .answer)
     → d' .next .live ≡ d .next .live → Change limit l t d → Change limit l t d'
 alike {limit} {t} {l} {d} {d'} ask end send rest live change = go change
   where
@@ -130,7 +134,8 @@ alike {limit} {t} {l} {d} {d'} ask end send rest live change = go change
     go (leaves b a q x among named shows same) = leaves b a q x among named (shown shows) (live ∙ same)
     go (turns b a q s frame among turn first shows same) = turns b a q s frame among turn first (shown shows) (live ∙ same)
     go (rests-free current free idle shows same) = rests-free current free idle (shown shows) (live ∙ same)
-    go (rests-busy current b a q f among flying calm shows same) = rests-busy current b a q f among flying calm (shown shows) (live ∙ same)
+    go (rests-busy current b a q f among flying calm shows same) =
+        rests-busy current b a q f among flying calm (shown shows) (live ∙ same)
 
 module _ (limit : ℕ) (l : Ledger) (r : line.Received) (reply buffer : List ℕ) (t : ℕ) where
   -- what an act comes to
@@ -151,8 +156,10 @@ module _ (limit : ℕ) (l : Ledger) (r : line.Received) (reply buffer : List ℕ
   to-ack seq nobody (none-shows h) = calmly (only l t answer.stray) refl refl
   to-ack seq (somebody b it f a) (one-shows among shown h) =
       let flying = acknowledged-state seq (it .state) shown in
-      by-test (λ w. Does (if w (receiving.moves l t (waiting t) b it a) (receiving.ends l t answer.noWord answer.acknowledged [] b it a))) (it .wanted)
-      (λ w. turns b a it (waiting t) none among (rw flying (acknowledges w)) (λ e. let z : _≡_ {A = ℕ} 0 1 = cc in absurd (omega arith))
+      by-test (λ w. Does (if w (receiving.moves l t (waiting t) b it a)
+      (receiving.ends l t answer.noWord answer.acknowledged [] b it a))) (it .wanted)
+      (λ w. turns b a it (waiting t) none among (rw flying (acknowledges w))
+      (λ e. let z : _≡_ {A = ℕ} 0 1 = cc in absurd (omega arith))
       (record { asks = refl; ends = refl; sends = refl; rests = refl }) refl)
       (λ w. leaves b a it _ among refl (record { asks = refl; ends = refl; sends = refl; rests = refl }) refl)
 
@@ -174,13 +181,22 @@ module _ (limit : ℕ) (l : Ledger) (r : line.Received) (reply buffer : List ℕ
   to-data payload =
       let c = commandIn payload in
       let response = onResponse l t c (dataIn payload) (oldest (λ q. provided (matches c q) tt) (l .live)) in
-      let told : Act = record { word = answer.event c; reply = []; ending = none; bytes = dataIn payload; seen = l .seen; live = l .live } in
+      let told : Act = record {
+        word = answer.event c;
+        reply = [];
+        ending = none;
+        bytes = dataIn payload;
+        seen = l .seen;
+        live =
+            l .live;
+      } in
       by-test (λ b. Does (if b (only l t answer.notCommand) (if (leb 1 (c .rqid) && leb (c .rqid) (l .reserved)) told response)))
       (not (isCommand payload))
       (λ e. calmly (only l t answer.notCommand) refl refl)
       (λ e. by-test (λ b. Does (if b told response)) (leb 1 (c .rqid) && leb (c .rqid) (l .reserved))
       (λ e. calmly told refl refl)
-      (λ e. to-response c (dataIn payload) (oldest (λ q. provided (matches c q) tt) (l .live)) (look (λ q. provided (matches c q) tt) (l .live))))
+      (λ e. to-response c (dataIn payload) (oldest (λ q. provided (matches c q) tt) (l .live))
+      (look (λ q. provided (matches c q) tt) (l .live))))
 
   to-sequenced : (seq : ℕ) (payload : List ℕ) → Does (onSequenced l t seq payload)
   to-sequenced seq payload =
@@ -195,10 +211,13 @@ module _ (limit : ℕ) (l : Ledger) (r : line.Received) (reply buffer : List ℕ
   to-message type seq payload =
       let acked = onAck l t (oldest (λ q. acknowledgedIn seq (q .state)) (l .live)) in
       let naked = onNak l t (oldest flies (l .live)) in
-      by-test (λ b. Does (if b acked (if (eqb type nak) naked (if (eqb type dataSeq) (onSequenced l t seq payload) (onData l t payload)))))
+      by-test (λ b. Does (if b acked (if (eqb type nak) naked
+      (if (eqb type dataSeq) (onSequenced l t seq payload) (onData l t payload)))))
       (eqb type ack)
-      (λ e. to-ack seq (oldest (λ q. acknowledgedIn seq (q .state)) (l .live)) (look (λ q. acknowledgedIn seq (q .state)) (l .live)))
-      (λ e. by-test (λ b. Does (if b naked (if (eqb type dataSeq) (onSequenced l t seq payload) (onData l t payload)))) (eqb type nak)
+      (λ e. to-ack seq (oldest (λ q. acknowledgedIn seq (q .state)) (l .live))
+      (look (λ q. acknowledgedIn seq (q .state)) (l .live)))
+      (λ e. by-test (λ b. Does (if b naked (if (eqb type dataSeq) (onSequenced l t seq payload) (onData l t payload))))
+      (eqb type nak)
       (λ e. to-nak (oldest flies (l .live)) (look flies (l .live)))
       (λ e. by-test (λ b. Does (if b (onSequenced l t seq payload) (onData l t payload))) (eqb type dataSeq)
       (λ e. to-sequenced seq payload)
@@ -225,7 +244,13 @@ module _ (limit : ℕ) (l : Ledger) (output : List ℕ) (t : ℕ) where
       → Change limit l t (polledAs l (polling.sends l t f next b it a) output t)
   to-sending b a it f next among turn first =
       turns b a it (inFlight f) (some (frameBytes it (f .seq))) among turn first
-      (record { asks = refl; ends = refl; sends = ap {B = Option (List ℕ)} some (put-in-front (frameBytes it (f .seq)) output); rests = refl })
+      (record {
+        asks = refl;
+        ends = refl;
+        sends = ap {B = Option (List ℕ)} some
+            (put-in-front (frameBytes it (f .seq)) output);
+        rests = refl;
+      })
       refl
 
   to-ending : (cause : answer.Cause) (b a : List Request) (it : Request) → l .live ≡ b ++ (it ∷ a)
@@ -235,7 +260,8 @@ module _ (limit : ℕ) (l : Ledger) (output : List ℕ) (t : ℕ) where
   module _ (current : All (λ x. overdueIn t (x .state) ≡ none) (l .live)) where
     to-step3 : All (λ x. flies x ≡ none) (l .live) → (s : Search (Unit {0})) → Looked (λ q. queuedIn (q .state)) (l .live) s
         → Change limit l t (polledAs l (orElse (step3 l t nobody s) (step4 l t)) output t)
-    to-step3 free nobody (none-shows h) = rests-free current free h (record { asks = refl; ends = refl; sends = refl; rests = refl }) refl
+    to-step3 free nobody (none-shows h) = rests-free current free h
+        (record { asks = refl; ends = refl; sends = refl; rests = refl }) refl
     to-step3 free (somebody b it w a) (one-shows among shown h) =
         to-sending b a it (firstSent (l .nextSeq) t) _ among (rw (queued-state (it .state) shown) starts) (λ e. (free, h))
 
@@ -247,12 +273,14 @@ module _ (limit : ℕ) (l : Ledger) (output : List ℕ) (t : ℕ) where
         let flying = flies-state (it .state) shown in
         let over = polling.ends l t answer.noAcknowledgement b it a in
         let resent = polling.sends l t (sentAgain f t) (l .nextSeq) b it a in
-        by-test (λ x. Change limit l t (polledAs l (orElse (if x (some (if (mayGoAgain f) resent over)) none) (step4 l t)) output t)) (due f t)
+        by-test (λ x. Change limit l t (polledAs l (orElse (if x (some (if (mayGoAgain f) resent over)) none)
+        (step4 l t)) output t)) (due f t)
         (λ late. by-test (λ x. Change limit l t (polledAs l (if x resent over) output t)) (mayGoAgain f)
         (λ may. to-sending b a it (sentAgain f t) (l .nextSeq) among (rw flying (sends-again late may))
         (λ e. let z : _≡_ {A = ℕ} 0 1 = cc in absurd (omega arith)))
         (λ may. to-ending answer.noAcknowledgement b a it among))
-        (λ calm. rests-busy current b a it f among flying calm (record { asks = refl; ends = refl; sends = refl; rests = refl }) refl)
+        (λ calm. rests-busy current b a it f among flying calm
+        (record { asks = refl; ends = refl; sends = refl; rests = refl }) refl)
 
   to-step1 : (s : Search (Unit {0})) → Looked (λ q. overdueIn t (q .state)) (l .live) s
       → Change limit l t (polledAs l (orElse (step1 l t s) (orElse (step2 l t (oldest flies (l .live)))
@@ -274,24 +302,16 @@ passed true n rest h = let z : _≡_ {A = ℕ} 0 1 = cc in absurd (omega arith)
 passed false n rest h = (refl, h)
 
 passes : (limit : ℕ) (l : Ledger) (c : Call) → refusal limit l c ≡ none → Passes limit l c
-unfolding firstOf lines
-passes limit l (submit fields bytes wanted t) h =
+unfolding firstOf
+passes limit l c h =
     let one = passed (malformed limit l) 1 _ h in
-    let two = passed (ltb t (l .clock)) 2 _ (one .1) in
-    record { sound = one .0; clock = ltb-false t (l .clock) (two .0) }
-passes limit l (receive bytes reply buffer t) h =
-    let one = passed (malformed limit l) 1 _ h in
-    let two = passed (ltb t (l .clock)) 2 _ (one .1) in
-    record { sound = one .0; clock = ltb-false t (l .clock) (two .0) }
-passes limit l (poll output t) h =
-    let one = passed (malformed limit l) 1 _ h in
-    let two = passed (ltb t (l .clock)) 2 _ (one .1) in
-    record { sound = one .0; clock = ltb-false t (l .clock) (two .0) }
+    let two = passed (ltb (readingOf c) (l .clock)) 2 _ (one .1) in
+    record { sound = one .0; clock = ltb-false (readingOf c) (l .clock) (two .0) }
 
 -- a submit that passes has short data and finds room
 has-room : (limit : ℕ) (l : Ledger) (fields : Fields) (bytes : List ℕ) (wanted : Bool) (t : ℕ)
     → refusal limit l (submit fields bytes wanted t) ≡ none → (length bytes ≤ maxData) × (length (l .live) ≡ limit → ⊥)
-unfolding firstOf lines
+unfolding firstOf
 has-room limit l fields bytes wanted t h =
     let one = passed (malformed limit l) 1 _ h in
     let two = passed (ltb t (l .clock)) 2 _ (one .1) in
@@ -301,7 +321,8 @@ has-room limit l fields bytes wanted t h =
 
 -- a receive by its item, with what it keeps
 to-receive : (limit : ℕ) (l : Ledger) (bytes reply buffer : List ℕ) (t : ℕ)
-    → (isAccepted (receiving.receive l bytes reply buffer t .answer) ≡ true) × Keeps l t (receiving.receive l bytes reply buffer t .next)
+    → (isAccepted (receiving.receive l bytes reply buffer t .answer) ≡ true) × Keeps l t
+    (receiving.receive l bytes reply buffer t .next)
     × Change limit l t (receiving.receive l bytes reply buffer t)
 unfolding receiving.receive
 to-receive limit l bytes reply buffer t =
@@ -326,7 +347,8 @@ accepted limit l (poll output t) h = go (polling.act l t) (to-poll limit l outpu
   where
     go : (a : polling.Act) → Change limit l t (polledAs l a output t) → View limit l (poll output t) (polledAs l a output t)
     go (polling.does p bytes next live) changed =
-        accepts (passes limit l (poll output t) h .clock) refl (record { reserved = refl; clock = refl; ids = inl refl; held = λ k. k }) changed
+        accepts (passes limit l (poll output t) h .clock) refl
+        (record { reserved = refl; clock = refl; ids = inl refl; held = λ k. k }) changed
 
 pub view : (limit : ℕ) (l : Ledger) (c : Call) → View limit l c (step limit l c)
 unfolding step

@@ -7,6 +7,7 @@ use mathlib.Core.Path.{_≡_}
 use lib.ListN.{length}
 use Rattle.link.specs.Frames.{maxTransmissions}
 use Rattle.line.specs.Receiving.{heldMax}
+use Rattle.ledger.specs.Parts.{reservedMax}
 use Rattle.ledger.specs.Answers.{Ending, quiet, polled}
 use Rattle.ledger.specs.Submitting.{lastId}
 use Rattle.ledger.specs.Calls.{readingOf}
@@ -65,6 +66,10 @@ DistinctIds (a ∷ rest) = All (λ b. b .id ≡ a .id → ⊥) rest × DistinctI
 -- "Unreserved means above R."; and no ID is above the last
 abbrev pub Unreserved : (reserved : ℕ) → Asked → Type 0
 Unreserved r a = (r < a .id) × (a .id ≤ lastId)
+
+-- the number of live requests leaves IDs enough, for every R: there are more unreserved ones
+abbrev pub Enough : (limit : ℕ) → Type 0
+Enough limit = limit + reservedMax < lastId
 
 -- how long a request can be live: 3,000 ms for each that may be live, and 3,000 for its response
 abbrev pub longest : (limit : ℕ) → ℕ

@@ -15,74 +15,40 @@ use Rattle.ledger.specs.Receiving as ledger
 use Rattle.ledger.specs.Receiving.{matches, onData, onMessage}
 use Rattle.ledger.specs.Polling.{earliest}
 use Rattle.ledger.specs.Polling as polling
-use Rattle.ledger.specs.Refusals.{some-of, twoEqual, flights, malformed, firstOf, lines}
+use Rattle.ledger.specs.Refusals.{some-of, twoEqual, flights, malformed, firstOf}
 use Rattle.ledger.specs.Runs.{step}
 use Rattle.ledger.specs.Examples.{Agrees, IsTrue, AreTrue, table}
 use Rattle.ledger.specs.FaultRuns.{faultRuns}
 
+infixr 4 _also_
+_also_ : {A B : Type 0} → A → B → A × B
+a also b = (a, b)
+
+-- each is computed: an equation for a checksum or a message, two for a call, and one for the bytes held in the end
 pub examples : AreTrue table
-unfolding AreTrue IsTrue Agrees step lines firstOf malformed flights twoEqual some-of polling.act earliest ledger.receive onMessage onData matches firstFree isLive idAfter oldest
+unfolding AreTrue IsTrue Agrees step firstOf malformed flights twoEqual some-of polling.act earliest ledger.receive onMessage onData matches firstFree isLive idAfter oldest
     isRepeat seenAfter due mayGoAgain seqAfter payload isCommand answers receive taken smallest placed scan dropped stands rules payloadOf
     allowed message body header fields le16 checksumOf checksumFrom withBits withBit bitsOf
-examples = (
-  refl,
-  (
-    refl,
-    (
-      refl,
-      (
-        refl,
-        (
-          refl,
-          (
-            (refl, refl, (refl, refl, refl)),
-            (
-              (refl, refl, refl),
-              (
-                (refl, refl, refl),
-                (
-                  (refl, refl, refl),
-                  (
-                    (refl, refl, (refl, refl, (refl, refl, (refl, refl, (refl, refl, (refl, refl, (refl, refl, refl))))))),
-                    (
-                      (refl, refl, (refl, refl, (refl, refl, (refl, refl, (refl, refl, (refl, refl, refl)))))),
-                      (
-                        (refl, refl, (refl, refl, (refl, refl, (refl, refl, refl)))),
-                        (
-                          (refl, refl, (refl, refl, (refl, refl, (refl, refl, (refl, refl, (refl, refl, (refl, refl, refl))))))),
-                          (
-                            (refl, refl, (refl, refl, (refl, refl, (refl, refl, refl)))),
-                            tt,
-                          ),
-                        ),
-                      ),
-                    ),
-                  ),
-                ),
-              ),
-            ),
-          ),
-        ),
-      ),
-    ),
-  ),
-)
+examples =
+    refl
+    also refl
+    also refl
+    also refl
+    also refl
+    also (refl, refl, (refl, refl, refl))
+    also (refl, refl, refl)
+    also (refl, refl, refl)
+    also (refl, refl, refl)
+    also (refl, refl, (refl, refl, (refl, refl, (refl, refl, (refl, refl, (refl, refl, (refl, refl, refl)))))))
+    also (refl, refl, (refl, refl, (refl, refl, (refl, refl, (refl, refl, (refl, refl, refl))))))
+    also (refl, refl, (refl, refl, (refl, refl, (refl, refl, refl))))
+    also (refl, refl, (refl, refl, (refl, refl, (refl, refl, (refl, refl, (refl, refl, (refl, refl, refl)))))))
+    also (refl, refl, (refl, refl, (refl, refl, (refl, refl, refl))))
+    also tt
 
 -- and the runs that show the faults
 pub fault-runs : AreTrue faultRuns
-unfolding AreTrue IsTrue Agrees step lines firstOf malformed flights twoEqual some-of polling.act earliest ledger.receive onMessage onData matches firstFree isLive idAfter oldest
+unfolding AreTrue IsTrue Agrees step firstOf malformed flights twoEqual some-of polling.act earliest ledger.receive onMessage onData matches firstFree isLive idAfter oldest
     isRepeat seenAfter due mayGoAgain seqAfter payload isCommand answers receive taken smallest placed scan dropped stands rules payloadOf
     allowed message body header fields le16 checksumOf checksumFrom withBits withBit bitsOf
-fault-runs = (
-  (refl, refl, refl),
-  (
-    (refl, refl, (refl, refl, refl)),
-    (
-      (refl, refl, (refl, refl, refl)),
-      (
-        (refl, refl, (refl, refl, (refl, refl, refl))),
-        tt,
-      ),
-    ),
-  ),
-)
+fault-runs = (refl, refl, refl) also (refl, refl, (refl, refl, refl)) also (refl, refl, (refl, refl, refl)) also (refl, refl, (refl, refl, (refl, refl, refl))) also tt

@@ -18,7 +18,8 @@ use Rattle.ledger.specs.Parts.{State, queued, inFlight, waiting, Request
 use Rattle.ledger.specs.Answers as answer
 use Rattle.ledger.specs.Answers.{Cause, acknowledged, Ending, Command, Word, noWord, stray, repeat, notCommand, event, unmatched, Done, received}
 
--- what an item does: the word that it earns, the reply, the ending, the bytes for the data buffer, and the controller's last SEQ and
+-- what an item does: the word that it earns, the reply, the ending, the bytes for the data buffer, and the controller's last SEQ
+-- and
 -- the live requests afterwards
 pub record Act : Type 0 where
   pub word : Word
@@ -99,7 +100,8 @@ module _ (l : Ledger) (clock : ℕ) where
   -- ACK: "response wanted, it waits from this reading; otherwise it ends, *acknowledged*. Any other ACK: *stray*."
   abbrev pub onAck : (acknowledged : Search Frame) → Act
   onAck nobody = only stray
-  onAck (somebody before it f after) = if (it .wanted) (moves (waiting clock) before it after) (ends noWord acknowledged [] before it after)
+  onAck (somebody before it f after) = if (it .wanted) (moves (waiting clock) before it after)
+      (ends noWord acknowledged [] before it after)
 
   -- "NAK: marks the frame in flight; none in flight: *stray*."
   abbrev pub onNak : (flight : Search Frame) → Act

@@ -11,7 +11,7 @@ use Rattle.command.specs.Payload.{maxData}
 use Rattle.link.specs.Frames.{maxTransmissions}
 use Rattle.ledger.specs.Parts.{reservedMax, State, queued, inFlight, waiting, Request, Ledger}
 use Rattle.ledger.specs.Submitting.{lastId, isLive}
-use Rattle.ledger.specs.Calls.{Call, submit, receive, poll}
+use Rattle.ledger.specs.Calls.{Call, submit, receive, poll, readingOf}
 
 -- whether some live request has a property
 unfoldable pub some-of : (Request → Bool) → List Request → Bool
@@ -69,38 +69,35 @@ malformed limit l =
     || (some-of (λ q. isLate (l .clock) (q .state)) (l .live)
     || ltb heldMax (length (l .held))))))))))
 
--- a line of the table: a number, and whether its rule holds
+-- a line of the table: the number, and whether its rule holds
 pub record Line : Type 0 where
   pub number : ℕ
   pub holds : Bool
+
+abbrev pub line : ℕ → Bool → Line
+line n holds = record { number = n; holds = holds }
 
 -- "tested in this order": the number of the first line whose rule holds
 unfoldable pub firstOf : List Line → Option ℕ
 firstOf [] = none
 firstOf (x ∷ xs) = if (x .holds) (some (x .number)) (firstOf xs)
 
--- the table's lines for open
+-- open: "R over 255"
 abbrev pub openLines : (given : ℕ) → List Line
-openLines given = record { number = 3; holds = ltb reservedMax given } ∷ []
+openLines given = line 3 (ltb reservedMax given) ∷ []
 
--- "endpoint malformed", "clock below the last accepted reading", and the call's own lines
-unfoldable pub lines : (limit : ℕ) → Ledger → Call → List Line
-lines limit l (submit fields bytes wanted clock) =
-    record { number = 1; holds = malformed limit l }
-    ∷ record { number = 2; holds = ltb clock (l .clock) }
-    ∷ record { number = 4; holds = ltb maxData (length bytes) }
-    ∷ record { number = 5; holds = eqb (length (l .live)) limit }
-    ∷ []
-lines limit l (receive bytes reply buffer clock) =
-    record { number = 1; holds = malformed limit l }
-    ∷ record { number = 2; holds = ltb clock (l .clock) }
-    ∷ record { number = 6; holds = ltb (length reply) (total 0) || ltb (length buffer) maxData }
-    ∷ []
-lines limit l (poll output clock) =
-    record { number = 1; holds = malformed limit l }
-    ∷ record { number = 2; holds = ltb clock (l .clock) }
-    ∷ record { number = 6; holds = ltb (length output) (total maxLen) }
-    ∷ []
+-- the lines of each call: "data over 248 bytes", "three live"; "reply buffer under 10 or data buffer under 248"; "output buffer
+-- under
+-- 266"
+abbrev pub ownLines : (limit : ℕ) → Ledger → Call → List Line
+ownLines limit l (submit fields bytes wanted clock) = line 4 (ltb maxData (length bytes)) ∷ line 5
+    (eqb (length (l .live)) limit) ∷ []
+ownLines limit l (receive bytes reply buffer clock) = line 6 (ltb (length reply) (total 0) || ltb (length buffer) maxData) ∷ []
+ownLines limit l (poll output clock) = line 6 (ltb (length output) (total maxLen)) ∷ []
+
+-- before them "endpoint malformed" and "clock below the last accepted reading"
+abbrev pub lines : (limit : ℕ) → Ledger → Call → List Line
+lines limit l c = line 1 (malformed limit l) ∷ line 2 (ltb (readingOf c) (l .clock)) ∷ ownLines limit l c
 
 -- the refusal of a call, if any
 abbrev pub refusal : (limit : ℕ) → Ledger → Call → Option ℕ
