@@ -14,7 +14,7 @@ use Rattle.ledger.specs.Calls.{Call, lentBy}
 use Rattle.ledger.specs.Refusals.{refusal}
 use Rattle.ledger.specs.Runs.{step, start, reservedFor, run}
 use Rattle.claims.specs.Trace.{liveAfter}
-use Rattle.claims.specs.Clauses.{Kept, Holds, Enough, longest}
+use Rattle.claims.specs.Clauses.{OutcomeClaims, LedgerClaims, Enough, longest}
 use Rattle.ledger.specs.Examples.{AreTrue, table}
 use Rattle.claims.proofs.Fine as fine
 use Rattle.claims.proofs.Fine.{Fine, not-malformed}
@@ -38,9 +38,9 @@ pub refused-changes-nothing : (limit : ℕ) (l : Ledger) (c : Call) (n : ℕ) �
 refused-changes-nothing limit l c n h = refused.changes-nothing limit l c n h
 
 -- "What demand 3 compares", of calls and outcomes alone
-pub demand-3 : (limit : ℕ) → Enough limit → (given : ℕ) (cs : List Call)
-    → Kept limit (reservedFor given) (run limit (start given) cs .past)
-demand-3 limit enough given cs =
+pub outcome-claims : (limit : ℕ) → Enough limit → (given : ℕ) (cs : List Call)
+    → OutcomeClaims limit (reservedFor given) (run limit (start given) cs .past)
+outcome-claims limit enough given cs =
     let s = run limit (start given) cs in
     let good = good-run limit enough (start given) cs (start-good limit given) in
     let h = s .past in
@@ -61,9 +61,9 @@ demand-3 limit enough given cs =
     }
 
 -- and of the ledger itself
-pub ledger-sound : (limit : ℕ) → Enough limit → (given : ℕ) (cs : List Call)
-    → Holds limit (reservedFor given) (run limit (start given) cs)
-ledger-sound limit enough given cs =
+pub ledger-claims : (limit : ℕ) → Enough limit → (given : ℕ) (cs : List Call)
+    → LedgerClaims limit (reservedFor given) (run limit (start given) cs)
+ledger-claims limit enough given cs =
     let s = run limit (start given) cs in
     let good = good-run limit enough (start given) cs (start-good limit given) in
     let same = reserved-stays limit (start given) cs in
@@ -87,11 +87,11 @@ three-are-few = omega arith
 pub twelve-seconds : longest liveMax ≡ 12000
 twelve-seconds = refl
 
-pub demand-3-of-three : (given : ℕ) (cs : List Call) → Kept liveMax (reservedFor given) (run liveMax (start given) cs .past)
-demand-3-of-three given cs = demand-3 liveMax three-are-few given cs
+pub outcome-claims-3 : (given : ℕ) (cs : List Call) → OutcomeClaims liveMax (reservedFor given) (run liveMax (start given) cs .past)
+outcome-claims-3 given cs = outcome-claims liveMax three-are-few given cs
 
-pub ledger-of-three : (given : ℕ) (cs : List Call) → Holds liveMax (reservedFor given) (run liveMax (start given) cs)
-ledger-of-three given cs = ledger-sound liveMax three-are-few given cs
+pub ledger-claims-3 : (given : ℕ) (cs : List Call) → LedgerClaims liveMax (reservedFor given) (run liveMax (start given) cs)
+ledger-claims-3 given cs = ledger-claims liveMax three-are-few given cs
 
 -- "Bench examples", all fourteen
 pub bench-examples : AreTrue table

@@ -84,7 +84,7 @@ submit-does-something limit l c id h = go (step limit l c) (view limit l c) h
         let none-told = shows .asks in let z : _≡_ {A = ℕ} 0 1 = cc in absurd (omega arith)
 
 -- 4. "one that reports all endings in the first call": the first call of a list reports none, since an ending belongs to a request
--- before it (`demand-3`, field `belong`)
+-- before it (`outcome-claims`, field `belong`)
 pub first-call-ends-nothing : (limit : ℕ) → Enough limit → (given : ℕ) (c : Call)
     → endingIn (step limit (start given .ledger) c .answer) ≡ none
 unfolding lastAsked

@@ -93,7 +93,7 @@ Bounded limit (e ∷ before) =
     (keepsClockRule (e ∷ before) ≡ true → EndsInTime limit e before × NoneLeft limit e before) × Bounded limit before
 
 -- what is claimed of calls and outcomes alone, where at most `limit` requests may be live and IDs up to `reserved` are events'
-pub record Kept (limit reserved : ℕ) (past : List Entry) : Type 0 where
+pub record OutcomeClaims (limit reserved : ℕ) (past : List Entry) : Type 0 where
   -- "An ending or a polled frame belongs to the last request before it whose ID it names"
   pub belong : AllBelong past
   -- requests end at most once, and are live until then
@@ -109,7 +109,7 @@ pub record Kept (limit reserved : ℕ) (past : List Entry) : Type 0 where
   pub inTime : Bounded limit past
 
 -- what is claimed of the ledger itself
-pub record Holds (limit reserved : ℕ) (s : Run) : Type 0 where
+pub record LedgerClaims (limit reserved : ℕ) (s : Run) : Type 0 where
   -- R stays, and the live requests are those that calls and outcomes show
   pub same : s .ledger .reserved ≡ reserved
   pub shown : map (λ q. q .id) (s .ledger .live) ≡ map (λ a. a .id) (liveAfter (s .past))
