@@ -1,6 +1,6 @@
 -- The bound: along every list of calls that keeps the clock rule, each live request is timely at every reading that may come next.
 use Prim.Native.Nat.{ℕ, _+_, _*_, _-_, _≤_, _<_}
-use mathlib.Core.Bool.{Bool, true, false, not, _&&_, _||_, cond as if}
+use mathlib.Core.Bool.{true, false, not, _||_, cond as if}
 use mathlib.Core.List.{List, [], _∷_, _++_}
 use mathlib.Core.Option.{Option, none, some, Option·map}
 use mathlib.Core.Path.{_≡_, refl, sym, ap, subst}
@@ -8,6 +8,7 @@ use native.Mathlib.Omega.{arith}
 use lib.Dec.{ltb}
 use lib.ListN.{length}
 use borrow.Author.Tests.{ltb-false, leb-true}
+use Rattle.message.proofs.Headers.{both}
 use Rattle.link.specs.Frames.{maxTransmissions}
 use Rattle.ledger.specs.Parts.{reservedMax, Request, Ledger, withState}
 use Rattle.ledger.specs.Answers.{sent, ended, quiet, Answer, refused, opened, submitted, received, polled, Done}
@@ -148,10 +149,6 @@ module _ (e : Entry) (h : List Entry) (t : ℕ) (accepted : isAccepted (e .answe
 pub record Timed (limit : ℕ) (s : Run) : Type 0 where
   pub ready : (t : ℕ) → s .ledger .clock ≤ t → mayFollow (s .past) t ≡ true
       → Timely limit t (acceptedAt (s .past)) (s .ledger .live)
-
-both : (a b : Bool) → a && b ≡ true → (a ≡ true) × (b ≡ true)
-both true b h = (refl, h)
-both false b h = let z : _≡_ {A = ℕ} 0 1 = cc in absurd (omega arith)
 
 pub kept-before : (e : Entry) (h : List Entry) → keepsClockRule (e ∷ h) ≡ true → keepsClockRule h ≡ true
 unfolding keepsClockRule

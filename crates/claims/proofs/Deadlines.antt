@@ -395,7 +395,7 @@ module _ (limit t : ℕ) (accepted : Request → ℕ) where
   -- before its deadline a wait is not over
   current-wait : (since : ℕ) → overdueIn t (waiting since) ≡ none → t < since + responseTime
   current-wait since h =
-      by-test (λ b. leb responseTime (t - since) ≡ b → provided b tt ≡ none → t < since + responseTime)
+      by-test (λ b. leb responseTime (t - since) ≡ b → provided {A = Unit {0}} b tt ≡ none → t < since + responseTime)
       (leb responseTime (t - since))
       (λ b e k. let z : _≡_ {A = ℕ} 0 1 = cc in absurd (omega arith))
       (λ b e k. let less = leb-false responseTime (t - since) e in omega arith)

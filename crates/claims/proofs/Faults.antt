@@ -14,6 +14,7 @@ use Rattle.message.specs.Bytes.{ack, nak, dataSeq, syn}
 use Rattle.message.specs.Items.{Scan, damagedPayload, decided, dropped, scan}
 use Rattle.message.proofs.Rules.{Applied, by-1, by-2, by-3, by-4, by-5, by-6, applied}
 use Rattle.command.specs.Payload.{isCommand, fieldsIn, rqidIn, dataIn, answers}
+use Rattle.message.proofs.Headers.{both}
 use Rattle.link.specs.Frames.{Frame, acknowledgedBy, withMark}
 use Rattle.ledger.specs.Parts.{State, queued, inFlight, waiting, Request, Ledger, withState, Search, nobody, somebody, oldest}
 use Rattle.ledger.specs.Answers as answer
@@ -103,10 +104,6 @@ pub record Matched (l : Ledger) (payload : List ℕ) (x : Ending) : Type 0 where
   pub iid : request .fields .iid ≡ fieldsIn payload .iid
   pub tid : request .fields .tid ≡ fieldsIn payload .sid
   pub sid : request .fields .sid ≡ fieldsIn payload .tid
-
-both : (a b : Bool) → a && b ≡ true → (a ≡ true) × (b ≡ true)
-both true b h = (refl, h)
-both false b h = let z : _≡_ {A = ℕ} 0 1 = cc in absurd (omega arith)
 
 provided-test : {what : Unit {0}} (b : Bool) → provided b tt ≡ some what → b ≡ true
 provided-test true h = refl

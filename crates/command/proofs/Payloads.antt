@@ -1,7 +1,7 @@
 -- The bytes of a command and what is read from them, each way: by computing the list, and byte by byte.
-use Prim.Native.Nat.{ℕ, _+_, _*_, _/_, _%_, _≤_, _<_}
+use Prim.Native.Nat.{ℕ, _+_, _≤_, _<_}
 use mathlib.Core.Bool.{true}
-use mathlib.Core.List.{List, [], _∷_}
+use mathlib.Core.List.{List, _∷_}
 use mathlib.Core.Path.{_≡_, refl, sym}
 use native.Mathlib.Omega.{arith}
 use lib.Dec.{eqb, leb}
@@ -10,7 +10,8 @@ use lib.Seq.{drop-cons, take-at}
 use borrow.Author.Tests.{le-leb, leb-true, eqb-true}
 use Rattle.message.proofs.Buffer.{after-placed}
 use Rattle.message.proofs.Headers.{both}
-use Rattle.message.specs.Bytes.{le16, fromLe16}
+use Rattle.message.proofs.WrittenRead.{le16-from}
+use Rattle.message.specs.Bytes.{le16}
 use Rattle.message.specs.Writing.{placed}
 use Rattle.command.specs.Payload.{Fields, commandMark, headLength, payload, isCommand, fieldsIn, rqidIn, dataIn}
 use Rattle.command.specs.Promises.{Wrote, command, commandIn}
@@ -53,12 +54,6 @@ pub written-rest : {n i : ℕ} {f : Fields} {d entry exit : List ℕ} → headLe
 written-rest {n} {i} {f} {d} {entry} {exit} room wrote =
     let long : n ≡ 0 + length (payload f i d) = omega (arith, length-payload f i d, wrote .answers) in
     rw (wrote .leaves, long) (after-placed 0 (payload f i d) entry (omega (arith, length-payload f i d)))
-
--- a number's bytes are those that it was read from
-le16-from : (a b : ℕ) → a < 256 → le16 (fromLe16 a b) ≡ a ∷ b ∷ []
-unfolding le16
-le16-from a b h =
-    let low : (a + b * 256) % 256 ≡ a = omega arith in let high : (a + b * 256) / 256 ≡ b = omega arith in rw (low, high)
 
 -- eight bytes in front of the rest
 eight : (xs : List ℕ) → headLength ≤ length xs

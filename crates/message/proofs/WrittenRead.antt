@@ -19,7 +19,7 @@ pair-at : (i : ℕ) (xs : List ℕ) → i + 2 ≤ length xs → take 2 (drop i x
 pair-at i xs h = rw (drop-cons xs i 0 (omega arith), drop-cons xs (suc i) 0 (omega arith), add-one i)
 
 -- a number's bytes are those that it was read from
-le16-from : (a b : ℕ) → a < 256 → le16 (fromLe16 a b) ≡ a ∷ b ∷ []
+pub le16-from : (a b : ℕ) → a < 256 → le16 (fromLe16 a b) ≡ a ∷ b ∷ []
 unfolding le16
 le16-from a b h =
     let low : (a + b * 256) % 256 ≡ a = omega arith in let high : (a + b * 256) / 256 ≡ b = omega arith in rw (low, high)
