@@ -3,7 +3,7 @@
 -- definitions say by searches; and so does the last, of the order of poll's steps.
 use Prim.Native.Nat.{ℕ, _+_, _-_, _≤_}
 use mathlib.Core.Bool.{Bool, true, false, not, _&&_, cond as if}
-use mathlib.Core.List.{List, [], _∷_, _++_, map}
+use mathlib.Core.List.{List, [], _∷_, _++_}
 use mathlib.Core.Option.{none, some}
 use mathlib.Core.Path.{_≡_, refl, sym, _∙_, ap}
 use native.Mathlib.Omega.{arith}
@@ -24,6 +24,7 @@ use Rattle.ledger.specs.Receiving.{only, flies, provided, acknowledgedIn, onAck
 use Rattle.ledger.specs.Polling as polling
 use Rattle.ledger.specs.Polling.{responseTime, overdueIn}
 use Rattle.claims.specs.Clauses.{All}
+use Rattle.claims.specs.PlainTerms.{transmissionsIn, counts, Matched}
 use Rattle.claims.proofs.Cases.{by-test}
 use Rattle.claims.proofs.Lists.{all-right}
 use Rattle.claims.proofs.Searches.{Looked, one-shows, look, find-oldest}
@@ -57,14 +58,6 @@ module _ (l : Ledger) (t seq : ℕ) (payload : List ℕ) where
           absurd (here f (its .0) (its .1))
 
 -- 2. "A NAK that restarts the count of transmissions.": a NAK leaves every count
-abbrev pub transmissionsIn : State → ℕ
-transmissionsIn queued = 0
-transmissionsIn (inFlight f) = f .transmissions
-transmissionsIn (waiting since) = 0
-
-abbrev pub counts : List Request → List ℕ
-counts live = map (λ q. transmissionsIn (q .state)) live
-
 pub nak-keeps-counts : (l : Ledger) (t seq : ℕ) (payload : List ℕ) → counts (onMessage l t nak seq payload .live) ≡ counts (l .live)
 unfolding onMessage
 nak-keeps-counts l t seq payload = go (oldest flies (l .live)) (look flies (l .live))
@@ -90,21 +83,6 @@ unfolding onMessage
 sequenced-is-acknowledged l t seq payload = refl
 
 -- 4. "A response matched by request ID alone.": what a response ends agrees in every field
-pub record Matched (l : Ledger) (payload : List ℕ) (x : Ending) : Type 0 where
-  pub before : List Request
-  pub after : List Request
-  pub request : Request
-  pub among : l .live ≡ before ++ (request ∷ after)
-  pub ended : x .id ≡ request .id
-  pub sent : isSent (request .state) ≡ true
-  pub wanted : request .wanted ≡ true
-  pub rqid : request .id ≡ rqidIn payload
-  pub tc : request .fields .tc ≡ fieldsIn payload .tc
-  pub cid : request .fields .cid ≡ fieldsIn payload .cid
-  pub iid : request .fields .iid ≡ fieldsIn payload .iid
-  pub tid : request .fields .tid ≡ fieldsIn payload .sid
-  pub sid : request .fields .sid ≡ fieldsIn payload .tid
-
 provided-test : {what : Unit {0}} (b : Bool) → provided b tt ≡ some what → b ≡ true
 provided-test true h = refl
 provided-test false h = let z : _≡_ {A = ℕ} 0 1 = cc in absurd (omega arith)

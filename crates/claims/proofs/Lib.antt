@@ -13,5 +13,5 @@ pub mod Bound
 pub mod Shown
 pub mod Refused
 pub mod Faults
-pub mod Laws
 pub mod UselessBuilds
+pub mod Laws

@@ -1,7 +1,6 @@
 -- Document 01, "What each statement has to rule out": for each of the five useless builds, the statement that shuts it out. A build
 -- answers as the ledger does, call by call (demand 3), so each statement here is about the ledger's answers.
 use Prim.Native.Nat.{ℕ, _+_}
-use mathlib.Core.Bool.{false}
 use mathlib.Core.List.{List, [], _∷_, _++_}
 use mathlib.Core.Option.{Option, none, some}
 use mathlib.Core.Path.{_≡_, refl, _∙_, ap, subst}
@@ -15,19 +14,19 @@ use Rattle.line.proofs.Laws.{item-of-all}
 use Rattle.link.specs.Frames.{Frame, due}
 use Rattle.ledger.specs.Parts.{liveMax, queued, inFlight, Request, Ledger, fresh}
 use Rattle.ledger.specs.Answers.{quiet, refused, submitted, polled, Done, Ending}
-use Rattle.ledger.specs.Receiving.{flies}
-use Rattle.ledger.specs.Polling.{overdueIn, queuedIn, frameBytes}
+use Rattle.ledger.specs.Polling.{frameBytes}
 use Rattle.ledger.specs.Calls.{Call, submit, poll, readingOf}
 use Rattle.ledger.specs.Refusals.{some-of, twoEqual, flights, malformed, firstOf, refusal}
-use Rattle.ledger.specs.Runs.{step, Run, start, then, run}
-use Rattle.claims.specs.Trace.{Asked, endingIn, frames, lastAsked, liveAfter}
-use Rattle.claims.specs.Clauses.{All, Enough}
+use Rattle.ledger.specs.Runs.{step, start, then, run}
+use Rattle.claims.specs.Trace.{endingIn, frames, lastAsked, liveAfter}
+use Rattle.claims.specs.Clauses.{Enough}
+use Rattle.claims.specs.PlainTerms.{NothingToDo, all-wait, one-flies, Counted}
 use Rattle.ledger.specs.Examples.{zeros}
 use Rattle.claims.proofs.Views.{stays, joins, leaves, turns, rests-free, rests-busy, View, refuses, accepts, view}
 use Rattle.claims.proofs.Owners.{Sent, owner-of}
 use Rattle.claims.proofs.Along.{Good, start-good, good-run, good-step}
 
--- 1. "one that refuses everything": a refused call is one that the table refuses (`refused-by-table`), and it does not refuse this
+-- 1. "one that refuses everything": a refused call is one that the table refuses (`Laws.refused-by-table`), and it does not refuse this
 pub does-not-refuse-all : refusal liveMax (fresh 38) (poll (zeros (total maxLen)) 0) ≡ none
 unfolding firstOf malformed some-of twoEqual flights
 does-not-refuse-all = refl
@@ -39,18 +38,11 @@ more-when-undecided held new decides = item-of-all held new ∙ rw decides
 
 -- ".. or *quiet* always": quiet is answered only where none is overdue, and none is in flight or queued or the one in flight is
 -- not due
-pub data Nothing-to-do (t : ℕ) (live : List Request) : Type 0 where
-  all-wait : All (λ q. overdueIn t (q .state) ≡ none) live → All (λ q. flies q ≡ none) live
-      → All (λ q. queuedIn (q .state) ≡ none) live
-      → Nothing-to-do t live
-  one-flies : All (λ q. overdueIn t (q .state) ≡ none) live → (b a : List Request) (q : Request) (f : Frame) → live ≡ b ++ (q ∷ a)
-      → q .state ≡ inFlight f → due f t ≡ false → Nothing-to-do t live
-
 pub quiet-when-nothing-to-do : (limit : ℕ) (l : Ledger) (c : Call) (time : Option ℕ) → step limit l c .answer ≡ polled (quiet time)
-    → Nothing-to-do (readingOf c) (l .live)
+    → NothingToDo (readingOf c) (l .live)
 quiet-when-nothing-to-do limit l c time h = go (step limit l c) (view limit l c) h
   where
-    go : (d : Done) → View limit l c d → d .answer ≡ polled (quiet time) → Nothing-to-do (readingOf c) (l .live)
+    go : (d : Done) → View limit l c d → d .answer ≡ polled (quiet time) → NothingToDo (readingOf c) (l .live)
     go d (refuses n number buffers same) h = let z : _≡_ {A = ℕ} 0 1 = cc in absurd (omega arith)
     go d (accepts go-on accepted keeps (stays shows same)) h =
         let none-told = shows .rests in let z : _≡_ {A = ℕ} 0 1 = cc in absurd (omega arith)
@@ -84,7 +76,7 @@ submit-does-something limit l c id h = go (step limit l c) (view limit l c) h
         let none-told = shows .asks in let z : _≡_ {A = ℕ} 0 1 = cc in absurd (omega arith)
 
 -- 4. "one that reports all endings in the first call": the first call of a list reports none, since an ending belongs to a request
--- before it (`outcome-claims`, field `belong`)
+-- before it (`Laws.outcome-claims`, field `belong`)
 pub first-call-ends-nothing : (limit : ℕ) → Enough limit → (given : ℕ) (c : Call)
     → endingIn (step limit (start given .ledger) c .answer) ≡ none
 unfolding lastAsked
@@ -104,11 +96,6 @@ first-call-ends-nothing limit enough given c = go (endingIn (step limit (start g
 -- 5. "one whose transmission count is invented": the count of a frame in flight is how many frames polls have put in their output
 -- for
 -- its request
-pub record Counted (s : Run) (q : Request) (f : Frame) : Type 0 where
-  pub request : Asked
-  pub last : lastAsked (q .id) (s .past) ≡ some request
-  pub counts : length (frames (request .place) (s .past)) ≡ f .transmissions
-
 pub counts-frames : (limit : ℕ) → Enough limit → (given : ℕ) (cs : List Call) → (b a : List Request) (q : Request) (f : Frame)
     → run limit (start given) cs .ledger .live ≡ b ++ (q ∷ a) → q .state ≡ inFlight f → Counted (run limit (start given) cs) q f
 counts-frames limit enough given cs b a q f among flying =

@@ -1,3 +1,4 @@
 pub mod Trace
 pub mod ClockRule
 pub mod Clauses
+pub mod PlainTerms

@@ -1,0 +1,56 @@
+-- What some rules of document 01 come to, said without the searches of the ledger's definitions: the words in which the statements
+-- about faults and useless builds are made.
+use Prim.Native.Nat.{ℕ}
+use mathlib.Core.Bool.{true, false}
+use mathlib.Core.List.{List, _∷_, _++_, map}
+use mathlib.Core.Option.{none, some}
+use mathlib.Core.Path.{_≡_}
+use lib.ListN.{length}
+use Rattle.command.specs.Payload.{fieldsIn, rqidIn}
+use Rattle.link.specs.Frames.{Frame, due}
+use Rattle.ledger.specs.Parts.{State, queued, inFlight, waiting, Request, Ledger}
+use Rattle.ledger.specs.Answers.{Ending}
+use Rattle.ledger.specs.Receiving.{flies, isSent}
+use Rattle.ledger.specs.Polling.{overdueIn, queuedIn}
+use Rattle.ledger.specs.Runs.{Run}
+use Rattle.claims.specs.Trace.{Asked, lastAsked, frames}
+use Rattle.claims.specs.Clauses.{All}
+
+-- the transmissions of a request's frame, and of all
+abbrev pub transmissionsIn : State → ℕ
+transmissionsIn queued = 0
+transmissionsIn (inFlight f) = f .transmissions
+transmissionsIn (waiting since) = 0
+
+abbrev pub counts : List Request → List ℕ
+counts live = map (λ q. transmissionsIn (q .state)) live
+
+-- the request that a response ends: in flight or waiting, it wants a response, and every field agrees, TID and SID swapped
+pub record Matched (l : Ledger) (payload : List ℕ) (x : Ending) : Type 0 where
+  pub before : List Request
+  pub after : List Request
+  pub request : Request
+  pub among : l .live ≡ before ++ (request ∷ after)
+  pub ended : x .id ≡ request .id
+  pub sent : isSent (request .state) ≡ true
+  pub wanted : request .wanted ≡ true
+  pub rqid : request .id ≡ rqidIn payload
+  pub tc : request .fields .tc ≡ fieldsIn payload .tc
+  pub cid : request .fields .cid ≡ fieldsIn payload .cid
+  pub iid : request .fields .iid ≡ fieldsIn payload .iid
+  pub tid : request .fields .tid ≡ fieldsIn payload .sid
+  pub sid : request .fields .sid ≡ fieldsIn payload .tid
+
+-- nothing for a poll to do: none is overdue; and none is in flight or queued, or the one in flight is not due
+pub data NothingToDo (t : ℕ) (live : List Request) : Type 0 where
+  all-wait : All (λ q. overdueIn t (q .state) ≡ none) live → All (λ q. flies q ≡ none) live
+      → All (λ q. queuedIn (q .state) ≡ none) live
+      → NothingToDo t live
+  one-flies : All (λ q. overdueIn t (q .state) ≡ none) live → (b a : List Request) (q : Request) (f : Frame) → live ≡ b ++ (q ∷ a)
+      → q .state ≡ inFlight f → due f t ≡ false → NothingToDo t live
+
+-- the count of a frame in flight is how many frames polls have put in their output for its request
+pub record Counted (s : Run) (q : Request) (f : Frame) : Type 0 where
+  pub request : Asked
+  pub last : lastAsked (q .id) (s .past) ≡ some request
+  pub counts : length (frames (request .place) (s .past)) ≡ f .transmissions
