@@ -21,6 +21,8 @@ use Rattle.ledger.specs.Refusals.{refusal}
 use Rattle.ledger.specs.Runs.{step, start, reservedFor, run}
 use Rattle.ledger.specs.Examples.{AreTrue, table}
 use Rattle.ledger.specs.FaultRuns.{faultRuns}
+use Rattle.ledger.specs.ItemRuns.{itemRuns}
+use Rattle.ledger.specs.RefusalRuns.{refusalRuns}
 use Rattle.ledger.proofs.Examples as examples
 use Rattle.claims.specs.Trace.{liveAfter}
 use Rattle.claims.specs.Clauses.{All, OutcomeClaims, LedgerClaims, Enough, longest}
@@ -142,7 +144,7 @@ pub refused-changes-nothing : (limit : ℕ) (l : Ledger) (c : Call) (n : ℕ) �
     → step limit l c ≡ record { answer = refused n; buffers = lentBy c; next = l }
 refused-changes-nothing limit l c n h = refused.changes-nothing limit l c n h
 
--- "Bench examples", all fourteen as one table; and the faults as runs
+-- "Bench examples", all fourteen as one table; and tables of runs for faults, items and refusals
 pub bench-examples : AreTrue table
 bench-examples = examples.examples
 
@@ -151,3 +153,9 @@ all-fourteen = refl
 
 pub fault-runs : AreTrue faultRuns
 fault-runs = examples.fault-runs
+
+pub item-runs : AreTrue itemRuns
+item-runs = examples.item-runs
+
+pub refusal-runs : AreTrue refusalRuns
+refusal-runs = examples.refusal-runs

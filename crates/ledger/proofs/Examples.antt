@@ -1,4 +1,4 @@
--- The fourteen bench examples of document 01, computed by the definitions.
+-- The fourteen bench examples of document 01, and the runs that show faults, items and refusals, computed by the definitions.
 use mathlib.Core.Path.{refl}
 use Rattle.checksum.specs.Checksum.{withBit, withBits, bitsOf, checksumFrom, checksumOf}
 use Rattle.message.specs.Bytes.{le16, fields, header, body, message, allowed}
@@ -19,6 +19,8 @@ use Rattle.ledger.specs.Refusals.{some-of, twoEqual, flights, malformed,
 use Rattle.ledger.specs.Runs.{step}
 use Rattle.ledger.specs.Examples.{Agrees, IsTrue, AreTrue, table}
 use Rattle.ledger.specs.FaultRuns.{faultRuns}
+use Rattle.ledger.specs.ItemRuns.{itemRuns}
+use Rattle.ledger.specs.RefusalRuns.{refusalRuns}
 
 infixr 4 _also_
 _also_ : {A B : Type 0} → A → B → A × B
@@ -52,3 +54,50 @@ unfolding AreTrue IsTrue Agrees step firstOf malformed flights twoEqual some-of 
     isRepeat seenAfter due mayGoAgain seqAfter payload isCommand answers receive taken smallest placed scan dropped stands rules payloadOf
     allowed message body header fields le16 checksumOf checksumFrom withBits withBit bitsOf
 fault-runs = (refl, refl, refl) also (refl, refl, (refl, refl, refl)) also (refl, refl, (refl, refl, refl)) also (refl, refl, (refl, refl, (refl, refl, refl))) also tt
+
+-- the runs of items
+pub item-runs : AreTrue itemRuns
+unfolding AreTrue IsTrue Agrees step firstOf malformed flights twoEqual some-of polling.act earliest ledger.receive onMessage onData matches firstFree isLive idAfter oldest
+    isRepeat seenAfter due mayGoAgain seqAfter payload isCommand answers receive taken smallest placed scan dropped stands rules payloadOf
+    allowed message body header fields le16 checksumOf checksumFrom withBits withBit bitsOf
+item-runs =
+    (refl, refl, refl)
+    also (refl, refl, refl)
+    also (refl, refl, refl)
+    also (refl, refl, refl)
+    also (refl, refl, refl)
+    also (refl, refl, refl)
+    also (refl, refl, refl)
+    also (refl, refl, refl)
+    also (refl, refl, refl)
+    also (refl, refl, refl)
+    also tt
+
+-- and the refusals
+pub refusal-runs : AreTrue refusalRuns
+unfolding AreTrue IsTrue Agrees step firstOf malformed flights twoEqual some-of polling.act earliest ledger.receive onMessage onData matches firstFree isLive idAfter oldest
+    isRepeat seenAfter due mayGoAgain seqAfter payload isCommand answers receive taken smallest placed scan dropped stands rules payloadOf
+    allowed message body header fields le16 checksumOf checksumFrom withBits withBit bitsOf
+refusal-runs =
+    (refl, refl, refl)
+    also (refl, refl, refl)
+    also (refl, refl, refl)
+    also (refl, refl, refl)
+    also (refl, refl, refl)
+    also (refl, refl, refl)
+    also (refl, refl, refl)
+    also (refl, refl, refl)
+    also (refl, refl, refl)
+    also (refl, refl, refl)
+    also (refl, refl, refl)
+    also (refl, refl, refl)
+    also (refl, refl, refl)
+    also (refl, refl, refl)
+    also (refl, refl, refl)
+    also (refl, refl, refl)
+    also (refl, refl, (refl, refl, (refl, refl, refl)))
+    also (refl, refl)
+    also (refl, refl)
+    also (refl, refl, (refl, refl, refl))
+    also (refl, refl, (refl, refl, (refl, refl, refl)))
+    also tt

@@ -17,7 +17,7 @@ use Rattle.link.specs.Repeats.{noneSeen}
 use Rattle.ledger.specs.Parts.{liveMax, Ledger, fresh}
 use Rattle.ledger.specs.Answers.{Cause, acknowledged, noAcknowledgement, Word, noWord, stray, Ending, Poll, sent, ended, quiet, Answer, refused, submitted, received, polled}
 use Rattle.ledger.specs.Calls.{Call, submit, receive, poll}
-use Rattle.ledger.specs.Runs.{step}
+use Rattle.ledger.specs.Runs.{open-for, step}
 
 -- a call, and what it is to come to: the answer and the lent buffers afterwards
 pub record Row : Type 0 where
@@ -25,11 +25,12 @@ pub record Row : Type 0 where
   pub answer : Answer
   pub buffers : List (List ℕ)
 
--- an example: the checksum of bytes; the bytes of a message; or calls one after another from a ledger, and how many bytes are held
--- in the end
+-- an example: the checksum of bytes; the bytes of a message; what open answers and hands back; or calls one after another from a
+-- ledger, and how many bytes are held in the end
 pub data Example : Type 0 where
   checksum : (bytes : List ℕ) (value : ℕ) → Example
   written : (type seq : ℕ) (payload bytes : List ℕ) → Example
+  opening : (given : ℕ) → Answer → Ledger → Example
   calls : (from : Ledger) (rows : List Row) (held : ℕ) → Example
 
 -- the calls of rows come to what the rows say
@@ -42,6 +43,7 @@ Agrees l (row ∷ rows) held =
 unfoldable pub IsTrue : Example → Type 0
 IsTrue (checksum bytes value) = checksumOf bytes ≡ value
 IsTrue (written type seq payload bytes) = message type seq payload ≡ bytes
+IsTrue (opening given a l) = (open-for given .answer ≡ a) × (open-for given .next ≡ l)
 IsTrue (calls from rows held) = Agrees from rows held
 
 unfoldable pub AreTrue : List Example → Type 0

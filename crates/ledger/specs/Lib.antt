@@ -8,4 +8,6 @@ pub mod Refusals
 pub mod Runs
 pub mod Examples
 pub mod FaultRuns
+pub mod ItemRuns
+pub mod RefusalRuns
 pub mod Promises

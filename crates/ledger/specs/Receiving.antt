@@ -100,8 +100,8 @@ module _ (l : Ledger) (clock : ℕ) where
   -- ACK: "response wanted, it waits from this reading; otherwise it ends, *acknowledged*. Any other ACK: *stray*."
   abbrev pub onAck : (acknowledged : Search Frame) → Act
   onAck nobody = only stray
-  onAck (somebody before it f after) = if (it .wanted) (moves (waiting clock) before it after)
-      (ends noWord acknowledged [] before it after)
+  onAck (somebody before it f after) =
+      if (it .wanted) (moves (waiting clock) before it after) (ends noWord acknowledged [] before it after)
 
   -- "NAK: marks the frame in flight; none in flight: *stray*."
   abbrev pub onNak : (flight : Search Frame) → Act

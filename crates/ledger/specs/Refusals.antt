@@ -86,13 +86,13 @@ firstOf (x ∷ xs) = if (x .holds) (some (x .number)) (firstOf xs)
 abbrev pub openLines : (given : ℕ) → List Line
 openLines given = line 3 (ltb reservedMax given) ∷ []
 
--- the lines of each call: "data over 248 bytes", "three live"; "reply buffer under 10 or data buffer under 248"; "output buffer
--- under
--- 266"
+-- the lines of each call: "data over 248 bytes", "three live"; "reply buffer under 10 or data buffer under 248"; and "output
+-- buffer under 266"
 abbrev pub ownLines : (limit : ℕ) → Ledger → Call → List Line
-ownLines limit l (submit fields bytes wanted clock) = line 4 (ltb maxData (length bytes)) ∷ line 5
-    (eqb (length (l .live)) limit) ∷ []
-ownLines limit l (receive bytes reply buffer clock) = line 6 (ltb (length reply) (total 0) || ltb (length buffer) maxData) ∷ []
+ownLines limit l (submit fields bytes wanted clock) =
+    line 4 (ltb maxData (length bytes)) ∷ line 5 (eqb (length (l .live)) limit) ∷ []
+ownLines limit l (receive bytes reply buffer clock) =
+    line 6 (ltb (length reply) (total 0) || ltb (length buffer) maxData) ∷ []
 ownLines limit l (poll output clock) = line 6 (ltb (length output) (total maxLen)) ∷ []
 
 -- before them "endpoint malformed" and "clock below the last accepted reading"
