@@ -34,12 +34,14 @@ frameGets type content word reply puts =
 abbrev pub command : (id : ℕ) → List ℕ
 command id = payload fields id bytes
 
+-- the header of example 3 with another checksum
+abbrev pub damagedAck : List ℕ
+damagedAck = 0xAA ∷ 0x55 ∷ 0x40 ∷ 0x00 ∷ 0x00 ∷ 0x00 ∷ 0x5C ∷ 0xEB ∷ []
+
 abbrev pub itemRuns : List Example
 itemRuns =
     -- "Damaged header .. : reply NAK, whatever TYPE the header shows": here ACK
-    calls (fresh 38) (
-    receives (0xAA ∷ 0x55 ∷ 0x40 ∷ 0x00 ∷ 0x00 ∷ 0x00 ∷ 0x5C ∷ 0xEB ∷ []) 0 (item damagedHeader) noWord none nakMessage
-    ∷ []) 6
+    calls (fresh 38) (receives damagedAck 0 (item damagedHeader) noWord none nakMessage ∷ []) 6
     -- "Forbidden: no reply."
     ∷ calls (fresh 38) (receives (take 8 (message 0x01 0 [])) 0 (item forbidden) noWord none [] ∷ []) 6
     -- "NAK: .. none in flight: *stray*."

@@ -19,8 +19,7 @@ use Rattle.ledger.specs.Answers as answer
 use Rattle.ledger.specs.Answers.{Cause, acknowledged, Ending, Command, Word, noWord, stray, repeat, notCommand, event, unmatched, Done, received}
 
 -- what an item does: the word that it earns, the reply, the ending, the bytes for the data buffer, and the controller's last SEQ
--- and
--- the live requests afterwards
+-- and the live requests afterwards
 pub record Act : Type 0 where
   pub word : Word
   pub reply : List ℕ

@@ -61,6 +61,13 @@ atLimits =
 abbrev pub threeQueued : Ledger
 threeQueued = ledger 38 42 (request 39 0 false queued ∷ request 40 0 false queued ∷ request 41 0 false queued ∷ []) 0
 
+-- calls before its clock, with buffers too short and data too long besides; calls with a buffer one byte too short
+abbrev pub tooEarly : List Row
+tooEarly = refuses (submitting 249 999) 2 ∷ refuses (receiving 0 0 999) 2 ∷ refuses (polling 0 999) 2 ∷ []
+
+abbrev pub tooShort : List Row
+tooShort = refuses (receiving 9 248 1000) 6 ∷ refuses (receiving 10 247 1000) 6 ∷ refuses (polling 265 1000) 6 ∷ []
+
 abbrev pub refusalRuns : List Example
 refusalRuns =
     -- 1: "R over 255"
@@ -91,20 +98,12 @@ refusalRuns =
     -- and nothing else: everything at its limit is not
     ∷ calls atLimits (polls 1000 (quiet (some 1000)) [] ∷ []) heldMax
     -- 2: "clock below the last accepted reading", tested before the call's own
-    ∷ calls threeQueued (
-    refuses (submitting 249 999) 2
-    ∷ refuses (receiving 0 0 999) 2
-    ∷ refuses (polling 0 999) 2
-    ∷ []) 0
+    ∷ calls threeQueued tooEarly 0
     -- 3: "R over 255": the fresh ledger for R = 0; 255 is not over
     ∷ opening 256 (refused 3) (fresh 0)
     ∷ opening 255 opened (fresh 255)
     -- 4 before 5: "data over 248 bytes", "three live"
     ∷ calls threeQueued (refuses (submitting 249 1000) 4 ∷ refuses (submitting 248 1000) 5 ∷ []) 0
     -- 6: "reply buffer under 10 or data buffer under 248", "output buffer under 266"
-    ∷ calls threeQueued (
-    refuses (receiving 9 248 1000) 6
-    ∷ refuses (receiving 10 247 1000) 6
-    ∷ refuses (polling 265 1000) 6
-    ∷ []) 0
+    ∷ calls threeQueued tooShort 0
     ∷ []
