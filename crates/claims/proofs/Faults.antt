@@ -1,6 +1,5 @@
 -- Document 01, "Faults we have shipped or nearly shipped": for each, the statement that shuts it out. They say in plain terms what
--- the
--- definitions say by searches; and so does the last, of the order of poll's steps.
+-- the definitions say by searches; and so does the last, of the order of poll's steps.
 use Prim.Native.Nat.{ℕ, _+_, _-_, _≤_}
 use mathlib.Core.Bool.{Bool, true, false, not, _&&_, cond as if}
 use mathlib.Core.List.{List, [], _∷_, _++_}

@@ -1,6 +1,5 @@
 -- The live requests of the ledger are those that the list of calls shows, one by one: each with the same ID, not ended, and with
--- the
--- frames that its state says were sent.
+-- the frames that its state says were sent.
 use Prim.Native.Nat.{ℕ, suc, _≤_}
 use mathlib.Core.Bool.{Bool, false, _||_}
 use mathlib.Core.List.{List, [], _∷_, _++_}

@@ -94,8 +94,7 @@ first-call-ends-nothing limit enough given c = go (endingIn (step limit (start g
         let z : _≡_ {A = ℕ} 0 1 = cc in absurd (omega arith)
 
 -- 5. "one whose transmission count is invented": the count of a frame in flight is how many frames polls have put in their output
--- for
--- its request
+-- for its request
 pub counts-frames : (limit : ℕ) → Enough limit → (given : ℕ) (cs : List Call) → (b a : List Request) (q : Request) (f : Frame)
     → run limit (start given) cs .ledger .live ≡ b ++ (q ∷ a) → q .state ≡ inFlight f → Counted (run limit (start given) cs) q f
 counts-frames limit enough given cs b a q f among flying =

@@ -1,6 +1,5 @@
 -- Document 01, "Faults we have shipped or nearly shipped": runs that show each of those that are the ledger's, and the order of
--- poll's
--- steps, beside what the fourteen examples show already (example 11: a NAK does not restart the count).
+-- poll's steps, beside what the fourteen examples show already (example 11: a NAK does not restart the count).
 use Prim.Native.Nat.{ℕ}
 use mathlib.Core.Bool.{true}
 use mathlib.Core.List.{List, [], _∷_}

@@ -48,8 +48,8 @@ isMalformed l = calls l (refuses (polling (total maxLen) 1000) 1 ∷ []) (length
 abbrev pub alone : Request → Ledger
 alone q = ledger 38 40 (q ∷ []) 0
 
--- everything at its limit: R 255, three live, the first ID and the last, three transmissions, 248 data bytes, times at the clock, 265
--- bytes held
+-- everything at its limit: R 255, three live, the first ID and the last, three transmissions, 248 data bytes, times at the clock,
+-- 265 bytes held
 abbrev pub atLimits : Ledger
 atLimits =
     ledger 255 65535
