@@ -13,5 +13,6 @@ pub mod Bound
 pub mod Shown
 pub mod Refused
 pub mod Faults
+pub mod Witness
 pub mod UselessBuilds
 pub mod Laws
