@@ -4,7 +4,7 @@ use crate::message::Message;
 use crate::reader::{read, Item};
 
 /// "At most 265 bytes are held."
-const MOST_HELD: usize = 265;
+pub const MOST_HELD: usize = 265;
 
 /// An item, with its own copy of the payload.
 #[derive(Clone, Debug, PartialEq, Eq)]
@@ -23,7 +23,7 @@ pub struct Received {
 }
 
 /// What stays between the calls: the held bytes, none at first.
-#[derive(Clone, Debug, Default)]
+#[derive(Clone, Debug, Default, PartialEq, Eq)]
 pub struct Line {
     pub held: Vec<u8>,
 }
