@@ -6,11 +6,10 @@ pub mod held;
 pub mod line;
 pub mod lister;
 pub mod listings;
-mod random;
 pub mod reader;
 mod sample;
 pub mod slices;
 pub mod stored;
 pub mod writer;
 
-pub use random::Random;
+pub use independent::random::Random;

@@ -1,30 +1,41 @@
 //! Numbers that look random and can be had again from their seed.
 
-/// SplitMix64 of Steele, Lea and Flood.
+/// xorshift64* of Vigna.
 #[derive(Clone, Debug)]
 pub struct Random(u64);
 
-/// The number in the environment variable `FIZRAHUM_SEED`, or a fixed one; printed with what it is for.
+/// The number in the environment variable `SEED`, or a fixed one; printed with what it is for.
 pub fn seed(purpose: &str) -> u64 {
-    let seed = match std::env::var("FIZRAHUM_SEED") {
-        Ok(text) => text.parse().expect("FIZRAHUM_SEED is a decimal number"),
-        Err(_) => 20_261_116,
+    let seed = match std::env::var("SEED") {
+        Ok(text) => text.parse().expect("SEED is a decimal number"),
+        Err(_) => 20_261_115,
     };
     println!("{purpose}: seed {seed}");
     seed
 }
 
 impl Random {
+    /// Starts from the seed, which is printed.
+    pub fn seeded(purpose: &str) -> Self {
+        Random::new(seed(purpose))
+    }
+
+    /// Starts from this number.
+    pub fn new(seed: u64) -> Self {
+        // any state but 0 serves
+        Random((seed ^ 0x9E37_79B9_7F4A_7C15).max(1))
+    }
+
     /// The generator number `number` of this seed, so that a single one of many can be had again.
-    pub fn new(seed: u64, number: u64) -> Self {
-        Random(Random(seed).number() ^ Random(!number).number())
+    pub fn numbered(seed: u64, number: u64) -> Self {
+        Random::new(mixed(seed) ^ mixed(!number))
     }
 
     pub fn number(&mut self) -> u64 {
-        self.0 = self.0.wrapping_add(0x9E37_79B9_7F4A_7C15);
-        let mixed = (self.0 ^ self.0 >> 30).wrapping_mul(0xBF58_476D_1CE4_E5B9);
-        let mixed = (mixed ^ mixed >> 27).wrapping_mul(0x94D0_49BB_1331_11EB);
-        mixed ^ mixed >> 31
+        self.0 ^= self.0 >> 12;
+        self.0 ^= self.0 << 25;
+        self.0 ^= self.0 >> 27;
+        self.0.wrapping_mul(0x2545_F491_4F6C_DD1D)
     }
 
     /// A number from 0 to `most`.
@@ -49,4 +60,11 @@ impl Random {
     pub fn bytes(&mut self, length: usize) -> Vec<u8> {
         (0..length).map(|_| self.byte()).collect()
     }
+}
+
+/// The last step of SplitMix64: numbers that are near become numbers that are not.
+fn mixed(number: u64) -> u64 {
+    let mixed = (number ^ number >> 30).wrapping_mul(0xBF58_476D_1CE4_E5B9);
+    let mixed = (mixed ^ mixed >> 27).wrapping_mul(0x94D0_49BB_1331_11EB);
+    mixed ^ mixed >> 31
 }

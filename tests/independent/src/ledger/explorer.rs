@@ -38,7 +38,7 @@ fn explore(purpose: &str, lists: u64, ids: Ids) {
     let seed = seed(purpose);
     let mut tally = Tally::default();
     for number in 0..lists {
-        let mut random = Random::new(seed, number);
+        let mut random = Random::numbered(seed, number);
         let r = List::any_r(&mut random);
         let (opened, ledger) = Ledger::open(r);
         tally.opened(opened);
