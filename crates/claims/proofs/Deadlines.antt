@@ -1,7 +1,7 @@
 -- When each live request leaves at the latest, under the clock rule, and that no change makes it later. The line is free by `base`:
 -- the frame in flight leaves by then, and each queued request 3,000 ms after the one before it.
 use Prim.Native.Nat.{ℕ, suc, _+_, _*_, _-_, _≤_, _<_}
-use mathlib.Core.Bool.{false, _||_}
+use mathlib.Core.Bool.{false}
 use mathlib.Core.List.{List, [], _∷_, _++_}
 use mathlib.Core.Option.{Option, none, some}
 use mathlib.Core.Path.{_≡_, refl, sym, _∙_, subst}
@@ -9,7 +9,8 @@ use native.Mathlib.Omega.{arith}
 use lib.Dec.{leb}
 use lib.ListN.{length}
 use borrow.Author.Tests.{leb-true, leb-false}
-use Rattle.link.specs.Frames.{Frame, maxTransmissions, resendTime, deadline, due, firstSent}
+use Rattle.link.specs.Frames.{Frame, maxTransmissions, deadline, due, firstSent}
+use Rattle.link.proofs.Laws.{not-due}
 use Rattle.ledger.specs.Parts.{State, queued, inFlight, waiting, Request, Ledger, withState}
 use Rattle.ledger.specs.Receiving.{frameIn, flies, provided}
 use Rattle.ledger.specs.Polling.{responseTime, overdueIn, queuedIn, deadlineIn, earlier, earliest}
@@ -414,20 +415,12 @@ module _ (limit t : ℕ) (accepted : Request → ℕ) where
       here (inFlight f) k ok = omega arith
       here (waiting since) k ok = let less = current-wait since k in omega arith
 
-  not-due : (f : Frame) → due f t ≡ false → t < deadline f
-  unfolding due
-  not-due f h =
-      by-test (λ m. m || leb resendTime (t - f .sent) ≡ false → t < deadline f) (f .marked)
-      (λ e k. let z : _≡_ {A = ℕ} 0 1 = cc in absurd (omega arith))
-      (λ e k. let less = leb-false resendTime (t - f .sent) k in omega arith)
-      h
-
   pub early-busy : (b a : List Request) (q : Request) {f : Frame} → q .state ≡ inFlight f → f .transmissions ≤ maxTransmissions
       → due f t ≡ false → All (λ x. overdueIn t (x .state) ≡ none) (b ++ (q ∷ a)) → Timely limit t accepted (b ++ (q ∷ a))
       → All (λ x. t < accepted x + 3000 * limit + 3000) (b ++ (q ∷ a))
   early-busy b a q {f} flying few calm current h =
       let by = flown-by limit t accepted (h .base) (h .base) b a q flying few (h .line) in
-      let less = not-due f calm in
+      let less = not-due f t calm .early in
       line-early (h .base) (h .base) (b ++ (q ∷ a)) (omega arith) (omega arith) current (h .line)
 
   pub early-free : (live : List Request) → All (λ x. flies x ≡ none) live → All (λ x. queuedIn (x .state) ≡ none) live

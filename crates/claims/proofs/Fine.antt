@@ -8,10 +8,11 @@ use mathlib.Core.Path.{_≡_, refl, sym, _∙_, ap}
 use native.Mathlib.Omega.{arith}
 use lib.Dec.{eqb, ltb}
 use lib.ListN.{length, length-append}
-use borrow.Author.Tests.{eqb-false, ne-eqb, ltb-true, le-ltb, le-leb}
+use borrow.Author.Tests.{eqb-false, ne-eqb, le-ltb, le-leb}
 use Rattle.line.specs.Receiving.{heldMax}
 use Rattle.command.specs.Payload.{maxData}
-use Rattle.link.specs.Frames.{Frame, maxTransmissions, mayGoAgain}
+use Rattle.link.specs.Frames.{Frame, maxTransmissions}
+use Rattle.link.proofs.Laws.{may-go-again}
 use Rattle.ledger.specs.Parts.{reservedMax, State, queued, inFlight, waiting, Request, Ledger, withState, fresh}
 use Rattle.ledger.specs.Answers.{Done}
 use Rattle.ledger.specs.Submitting.{lastId, isLive, idAfter, issued}
@@ -132,10 +133,6 @@ none-flying (q ∷ live) h = let rest = none-flying live (h .1) in let here = ca
     calm (inFlight f) k = let z : _≡_ {A = ℕ} 0 1 = cc in absurd (omega arith)
     calm (waiting since) k = refl
 
-may-again : (f : Frame) → mayGoAgain f ≡ true → f .transmissions < maxTransmissions
-unfolding mayGoAgain
-may-again f h = ltb-true (f .transmissions) maxTransmissions h
-
 -- how a turn changes one request
 pub record Turned (t : ℕ) (q : Request) (from to : State) : Type 0 where
   pub steady : Steady t (q .wanted) to
@@ -148,7 +145,7 @@ turned l t q (acknowledges wanted) h = record { steady = (wanted, omega arith); 
 turned l t q marks h = record { steady = h; lighter = inl (omega arith) }
 turned l t q starts h = record { steady = (omega arith, omega arith, omega arith); lighter = inr (refl, refl) }
 turned l t q (sends-again {f} late may) h =
-    let again = may-again f may in record { steady = (omega arith, omega arith, omega arith); lighter = inl (omega arith) }
+    let again = may-go-again f may in record { steady = (omega arith, omega arith, omega arith); lighter = inl (omega arith) }
 
 module _ {limit r t : ℕ} where
   fit-less : (b a : List Request) (q : Request) → Fit limit r t (b ++ (q ∷ a)) → Fit limit r t (b ++ a)

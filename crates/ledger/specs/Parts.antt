@@ -22,7 +22,7 @@ pub data State : Type 0 where
   inFlight : Frame → State
   waiting : (since : ℕ) → State
 
--- a live request: its ID, "what each live request was submitted with" and its state
+-- a live request: its ID, "what each live request was submitted with" (fields, data bytes, response wanted or not) and its state
 pub record Request : Type 0 where
   pub id : ℕ
   pub fields : Fields
@@ -31,7 +31,7 @@ pub record Request : Type 0 where
   pub state : State
 
 -- "R, the clock, the next SEQ, the next request ID, the controller's last SEQ, and .. live requests, oldest first"; beside these
--- "the held bytes"
+-- "the held bytes". R is how many IDs, from 1 up, are reserved for events
 pub record Ledger : Type 0 where
   pub reserved : ℕ
   pub clock : ℕ
@@ -54,6 +54,7 @@ pub data Search (A : Type 0) : Type 0 where
   nobody : Search A
   somebody : (before : List Request) (it : Request) (what : A) (after : List Request) → Search A
 
+-- what was found behind a request, seen from it
 abbrev pub behind : {A : Type 0} → Request → Search A → Search A
 behind q nobody = nobody
 behind q (somebody before it what after) = somebody (q ∷ before) it what after
@@ -63,6 +64,7 @@ abbrev pub frontOr : {A : Type 0} → Option A → Request → List Request → 
 frontOr none q qs rest = behind q rest
 frontOr (some what) q qs rest = somebody [] q what qs
 
+-- the oldest live request that shows what is looked for
 unfoldable pub oldest : {A : Type 0} → (Request → Option A) → List Request → Search A
 oldest shows [] = nobody
 oldest shows (q ∷ qs) = frontOr (shows q) q qs (oldest shows qs)

@@ -52,6 +52,7 @@ start given = record { past = []; ledger = open-for given .next }
 abbrev pub reservedFor : (given : ℕ) → ℕ
 reservedFor given = open-for given .next .reserved
 
+-- one call more
 abbrev pub then : (limit : ℕ) → Run → Call → Run
 then limit s c =
     let d = step limit (s .ledger) c in

@@ -26,7 +26,8 @@ unfoldable pub firstFree : (passed reserved : ℕ) → List Request → (id : �
 firstFree zero r live id = id
 firstFree (suc n) r live id = if (isLive id live) (firstFree n r live (idAfter r id)) id
 
--- "The ID is the first one not live, from the next request ID on": as many as are live are passed over at most (law `issued-free`)
+-- "The ID is the first one not live, from the next request ID on": no more are passed over than are live
+-- (theorem `issued-not-live`)
 abbrev pub issued : Ledger → ℕ
 issued l = firstFree (length (l .live)) (l .reserved) (l .live) (l .nextId)
 
