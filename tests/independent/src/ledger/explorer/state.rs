@@ -2,7 +2,7 @@
 
 use crate::ledger::answers::{Item, Received, Word};
 use crate::ledger::calls::{Call, Outcome};
-use crate::ledger::request::Request;
+use crate::ledger::request::{Request, State};
 use crate::ledger::trace::{Clause, Trace};
 use crate::ledger::Ledger;
 use crate::message::SYN;
@@ -22,6 +22,7 @@ pub fn after(before: &Ledger, call: &Call, outcome: &Outcome, ledger: &Ledger, t
     let flying = ledger.live.iter().filter(|request| request.is_in_flight()).count();
     wanted(flying <= 1, "two in flight")?;
     wanted(ids_are_within(ledger), "an ID outside R + 1 to 65535")?;
+    wanted(in_order(ledger), "not waiting, in flight, queued in this order")?;
     let ids = ledger.live.iter().map(|request| request.id);
     wanted(ids.eq(trace.live_ids()), "live are not those accepted and not ended")?;
     let (Call::Receive { new, .. }, Outcome::Receive { answer, data, .. }) = (call, outcome) else {
@@ -41,6 +42,20 @@ fn ids_are_within(ledger: &Ledger) -> bool {
     let above = |id: u16| u64::from(id) > ledger.r;
     let live = |request: &Request| above(request.id.0);
     above(ledger.next_id.0) && ledger.live.iter().all(live)
+}
+
+/// Frames go out in order of acceptance, one at a time. So first come those that wait, whose times do not fall, then
+/// the one in flight, which was sent no earlier and has the SEQ before the next, then those that are queued.
+fn in_order(ledger: &Ledger) -> bool {
+    let key = |request: &Request| match request.state {
+        State::Waiting { since } => (0, since),
+        State::InFlight(flight) => (1, flight.last_sent),
+        State::Queued => (2, 0),
+    };
+    let keys: Vec<_> = ledger.live.iter().map(key).collect();
+    let sent = keys.iter().filter(|(kind, _)| *kind < 2).map(|(_, time)| time);
+    let flight = ledger.live.iter().find_map(Request::flight);
+    keys.is_sorted() && sent.is_sorted() && flight.is_none_or(|flight| flight.seq.next() == ledger.next_seq)
 }
 
 /// Of held and taken bytes: "Drop bytes until AA 55 stands in front; a lone AA at the end is kept." Then what the item
