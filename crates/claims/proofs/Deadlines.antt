@@ -273,7 +273,7 @@ module _ (limit t : ℕ) (accepted : Request → ℕ) where
 abbrev pub Until : ℕ → Request → Type 0
 Until t q = (d : ℕ) → deadlineIn (q .state) ≡ some d → t ≤ d
 
-some-number : {x y : ℕ} → some x ≡ some y → x ≡ y
+pub some-number : {x y : ℕ} → some x ≡ some y → x ≡ y
 some-number h = cc
 
 -- with no deadline, none has passed
@@ -394,7 +394,7 @@ module _ (limit t : ℕ) (accepted : Request → ℕ) where
       here (waiting since) ok = omega arith
 
   -- before its deadline a wait is not over
-  current-wait : (since : ℕ) → overdueIn t (waiting since) ≡ none → t < since + responseTime
+  pub current-wait : (since : ℕ) → overdueIn t (waiting since) ≡ none → t < since + responseTime
   current-wait since h =
       by-test (λ b. leb responseTime (t - since) ≡ b → provided {A = Unit {0}} b tt ≡ none → t < since + responseTime)
       (leb responseTime (t - since))

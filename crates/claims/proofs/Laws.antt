@@ -26,10 +26,12 @@ use Rattle.ledger.specs.RefusalRuns.{refusalRuns}
 use Rattle.ledger.proofs.Examples as examples
 use Rattle.claims.specs.Trace.{liveAfter}
 use Rattle.claims.specs.Clauses.{All, OutcomeClaims, LedgerClaims, Enough, longest}
-use Rattle.claims.specs.PlainTerms.{counts, Matched, NothingToDo, Counted}
+use Rattle.claims.specs.PlainTerms.{counts, Matched, NothingToDo, QuietTime, Counted}
 use Rattle.claims.proofs.Fine as fine
 use Rattle.claims.proofs.Fine.{not-malformed}
+use Rattle.claims.proofs.Views.{view}
 use Rattle.claims.proofs.Along.{start-good, good-run}
+use Rattle.claims.proofs.QuietTime as quiet-times
 use Rattle.claims.proofs.Bound.{always-bounded}
 use Rattle.claims.proofs.Shown.{same-ids, same-length, all-unreserved, all-distinct, reserved-stays}
 use Rattle.claims.proofs.Refused as refused
@@ -74,6 +76,15 @@ overdue-ends-first l t b a q since among waits late none-before =
 pub quiet-when-nothing-to-do : (limit : ℕ) (l : Ledger) (c : Call) (time : Option ℕ) → step limit l c .answer ≡ polled (quiet time)
     → NothingToDo (readingOf c) (l .live)
 quiet-when-nothing-to-do limit l c time h = useless.quiet-when-nothing-to-do limit l c time h
+
+-- and its time says *no deadline* only where nobody is live, else from 1 to 3,000 ms
+pub quiet-time : (limit : ℕ) → Enough limit → (given : ℕ) (cs : List Call) (c : Call) (time : Option ℕ)
+    → step limit (run limit (start given) cs .ledger) c .answer ≡ polled (quiet time)
+    → QuietTime (run limit (start given) cs .ledger .live) time
+quiet-time limit enough given cs c time h =
+    let l = run limit (start given) cs .ledger in
+    quiet-times.quiet-time limit l c (step limit l c) time (good-run limit enough (start given) cs (start-good limit given) .fine)
+    (view limit l c) h
 
 -- the count of a frame in flight is how many frames polls have put in their output
 pub counts-frames : (limit : ℕ) → Enough limit → (given : ℕ) (cs : List Call) → (b a : List Request) (q : Request) (f : Frame)

@@ -13,6 +13,7 @@ pub mod Bound
 pub mod Shown
 pub mod Refused
 pub mod Faults
+pub mod QuietTime
 pub mod Witness
 pub mod UselessBuilds
 pub mod Laws

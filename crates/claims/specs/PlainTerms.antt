@@ -1,9 +1,9 @@
 -- What some rules of document 01 come to, said without the searches of the ledger's definitions: the words in which the statements
 -- about faults and useless builds are made.
-use Prim.Native.Nat.{ℕ}
+use Prim.Native.Nat.{ℕ, _≤_}
 use mathlib.Core.Bool.{true, false}
-use mathlib.Core.List.{List, _∷_, _++_, map}
-use mathlib.Core.Option.{none, some}
+use mathlib.Core.List.{List, [], _∷_, _++_, map}
+use mathlib.Core.Option.{Option, none, some}
 use mathlib.Core.Path.{_≡_}
 use lib.ListN.{length}
 use Rattle.command.specs.Payload.{fieldsIn, rqidIn}
@@ -11,7 +11,7 @@ use Rattle.link.specs.Frames.{Frame, due}
 use Rattle.ledger.specs.Parts.{State, queued, inFlight, waiting, Request, Ledger}
 use Rattle.ledger.specs.Answers.{Ending}
 use Rattle.ledger.specs.Receiving.{flies, isSent}
-use Rattle.ledger.specs.Polling.{overdueIn, queuedIn}
+use Rattle.ledger.specs.Polling.{responseTime, overdueIn, queuedIn}
 use Rattle.ledger.specs.Runs.{Run}
 use Rattle.claims.specs.Trace.{Asked, lastAsked, frames}
 use Rattle.claims.specs.Clauses.{All}
@@ -48,6 +48,11 @@ pub data NothingToDo (t : ℕ) (live : List Request) : Type 0 where
       → NothingToDo t live
   one-flies : All (λ q. overdueIn t (q .state) ≡ none) live → (b a : List Request) (q : Request) (f : Frame) → live ≡ b ++ (q ∷ a)
       → q .state ≡ inFlight f → due f t ≡ false → NothingToDo t live
+
+-- "with the milliseconds to the earliest such deadline, or *no deadline*": none only where nobody is live, else from 1 to 3,000
+pub record QuietTime (live : List Request) (time : Option ℕ) : Type 0 where
+  pub nobody-waits : time ≡ none → live ≡ []
+  pub bounded : (ms : ℕ) → time ≡ some ms → (1 ≤ ms) × (ms ≤ responseTime)
 
 -- the count of a frame in flight is how many frames polls have put in their output for its request
 pub record Counted (s : Run) (q : Request) (f : Frame) : Type 0 where
