@@ -27,6 +27,7 @@ pub record Asked : Type 0 where
   pub id : ℕ
   pub time : ℕ
 
+-- the ID that an answer issues, if any
 abbrev pub idIn : Answer → Option ℕ
 idIn (refused number) = none
 idIn opened = none
@@ -34,6 +35,7 @@ idIn (submitted id) = some id
 idIn (received r) = none
 idIn (polled p) = none
 
+-- the request that the call at a place is, if it is one
 abbrev pub askedAs : Entry → (place id : ℕ) → Asked
 askedAs e place id = record { place = place; id = id; time = readingOf (e .call) }
 
@@ -70,23 +72,25 @@ sentIn (submitted id) output = none
 sentIn (received r) output = none
 sentIn (polled p) output = sentBy p output
 
+-- that of a call
 abbrev pub frameIn : Entry → Option (List ℕ)
 frameIn e = sentIn (e .answer) (first (e .buffers))
 
--- the ID that an ending names, and a frame "in its RQID"
+-- the ID that a frame names, "in its RQID"
 abbrev pub namedBy : (frame : List ℕ) → ℕ
 namedBy frame = rqidIn (drop headerLength frame)
 
--- "belongs to the last request before it whose ID it names"
+-- a request, where it has the ID, or else the last one before it
 abbrev pub lastOr : (id : ℕ) → Option Asked → Option Asked → Option Asked
 lastOr id none rest = rest
 lastOr id (some a) rest = if (eqb (a .id) id) (some a) rest
 
+-- "the last request before it whose ID it names"
 unfoldable pub lastAsked : (id : ℕ) → (before : List Entry) → Option Asked
 lastAsked id [] = none
 lastAsked id (e ∷ es) = lastOr id (askedBy e (length es)) (lastAsked id es)
 
--- the request that a call's ending belongs to, and the one that its frame belongs to
+-- "belongs to": the request that a call's ending belongs to, and the one that its frame belongs to
 abbrev pub owner : Option ℕ → (before : List Entry) → Option Asked
 owner none before = none
 owner (some id) before = lastAsked id before
@@ -107,24 +111,27 @@ unfoldable pub endings : (place : ℕ) → List Entry → ℕ
 endings place [] = 0
 endings place (e ∷ es) = if (isAt place (endedBy e es)) 1 0 + endings place es
 
--- "Its frame goes out as often as polls put one that belongs to it in their output": these frames
+-- a frame, if there is one
 abbrev pub framed : Option (List ℕ) → List (List ℕ)
 framed none = []
 framed (some bytes) = bytes ∷ []
 
+-- "Its frame goes out as often as polls put one that belongs to it in their output": these frames, newest first
 unfoldable pub frames : (place : ℕ) → List Entry → List (List ℕ)
 frames place [] = []
 frames place (e ∷ es) = if (isAt place (sentFor e es)) (framed (frameIn e)) [] ++ frames place es
 
--- "A request is live until an ending that belongs to it.": those live after the calls, oldest first
+-- the requests without one that ended
 unfoldable pub without : Option Asked → List Asked → List Asked
 without gone [] = []
 without gone (a ∷ rest) = if (isAt (a .place) gone) (without gone rest) (a ∷ without gone rest)
 
+-- a request that joins, if there is one
 abbrev pub joining : Option Asked → List Asked
 joining none = []
 joining (some a) = a ∷ []
 
+-- "A request is live until an ending that belongs to it.": those live after the calls, oldest first
 unfoldable pub liveAfter : List Entry → List Asked
 liveAfter [] = []
 liveAfter (e ∷ es) = without (endedBy e es) (liveAfter es) ++ joining (askedBy e (length es))

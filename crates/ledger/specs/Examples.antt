@@ -159,6 +159,7 @@ calls-13 =
 abbrev pub calls-14 : List Row
 calls-14 = threeLive ++ (submits (zeros 249) 0 (refused 4) ∷ [])
 
+-- the fourteen
 abbrev pub table : List Example
 table =
     -- 1. "Checksum of no bytes: 0xFFFF."

@@ -116,5 +116,6 @@ polledAs l (does answer bytes nextSeq live) output clock = record {
   };
 }
 
+-- a poll that the table does not refuse
 abbrev pub poll : Ledger → (output : List ℕ) (clock : ℕ) → Done
 poll l output clock = polledAs l (act l clock) output clock

@@ -166,6 +166,7 @@ receivedAs l r a reply buffer clock = record {
   };
 }
 
+-- a receive that the table does not refuse
 unfoldable pub receive : Ledger → (bytes reply buffer : List ℕ) (clock : ℕ) → Done
 receive l bytes reply buffer clock =
     let r = line.receive (l .held) bytes in receivedAs l r (act l clock (r .answer) (r .payload)) reply buffer clock

@@ -33,6 +33,7 @@ fliesOnce queued = 0
 fliesOnce (inFlight f) = 1
 fliesOnce (waiting since) = 0
 
+-- of all live requests
 unfoldable pub flights : List Request → ℕ
 flights [] = 0
 flights (q ∷ qs) = fliesOnce (q .state) + flights qs

@@ -15,6 +15,7 @@ abbrev pub openedBy : (given : ℕ) → Option ℕ → Done
 openedBy given none = record { answer = opened; buffers = []; next = fresh given }
 openedBy given (some number) = record { answer = refused number; buffers = []; next = fresh 0 }
 
+-- what open answers and hands back
 abbrev pub open-for : (given : ℕ) → Done
 open-for given = openedBy given (firstOf (openLines given))
 
