@@ -30,9 +30,6 @@ use Rattle.claims.proofs.Searches.{Looked, one-shows, look, find-oldest
 
 -- 1. "An ACK for an older SEQ ending the frame now in flight.": an ACK with another SEQ than that in flight does nothing
 module _ (l : Ledger) (t seq : ℕ) (payload : List ℕ) where
-  Other : Request → Type 0
-  Other q = (f : Frame) → q .state ≡ inFlight f → f .seq ≡ seq → ⊥
-
   shown-seq : (s : State) {f : Frame} → acknowledgedIn seq s ≡ some f → (s ≡ inFlight f) × (f .seq ≡ seq)
   shown-seq queued h = let z : _≡_ {A = ℕ} 0 1 = cc in absurd (omega arith)
   shown-seq (waiting since) h = let z : _≡_ {A = ℕ} 0 1 = cc in absurd (omega arith)

@@ -8,7 +8,8 @@ use mathlib.Core.Option.{Option, none, some}
 use mathlib.Core.Path.{_≡_, refl}
 use native.Mathlib.Omega.{arith}
 use lib.ListN.{length}
-use Rattle.message.specs.Bytes.{ack, nak, dataSeq}
+use Rattle.message.specs.Bytes.{syn, ack, nak, dataSeq}
+use Rattle.message.specs.Items.{damagedPayload, decided, scan}
 use Rattle.link.specs.Frames.{Frame}
 use Rattle.ledger.specs.Parts.{liveMax, inFlight, waiting, Request, Ledger}
 use Rattle.ledger.specs.Answers.{noResponse, stray, Ending, quiet, refused, polled}
@@ -64,6 +65,10 @@ sequenced-is-acknowledged l t seq payload = faults.sequenced-is-acknowledged l t
 pub response-matches-every-field : (l : Ledger) (t : ℕ) (payload : List ℕ) (x : Ending) → onData l t payload .ending ≡ some x
     → Matched l payload x
 response-matches-every-field l t payload x ends = faults.response-matches-every-field l t payload x ends
+
+-- with a damaged payload only SYN is removed
+pub damaged-removes-syn : (xs : List ℕ) {d r : ℕ} → scan xs ≡ decided damagedPayload d r → r ≡ length syn
+damaged-removes-syn xs h = faults.damaged-removes-syn xs h
 
 -- **Poll**: the oldest waiting request whose time is up ends first, whatever is due
 pub overdue-ends-first : (l : Ledger) (t : ℕ) (b a : List Request) (q : Request) (since : ℕ) → l .live ≡ b ++ (q ∷ a)
@@ -137,7 +142,7 @@ ledger-claims limit enough given cs =
 pub three-are-few : Enough liveMax
 three-are-few = omega arith
 
--- "T + 12,000"
+-- for three, 12,000 ms
 pub twelve-seconds : longest liveMax ≡ 12000
 twelve-seconds = refl
 

@@ -23,6 +23,13 @@ use Rattle.ledger.specs.Examples.{zeros}
 use Rattle.claims.specs.Trace.{lastAsked, endings, frames, without, liveAfter, requests}
 use Rattle.claims.specs.ClockRule.{mayFollow, keepsClockRule}
 
+-- all that a list is computed with
+computed : Unit {0}
+unfolding run step firstOf malformed flights twoEqual some-of polling.act earliest firstFree isLive idAfter oldest due mayGoAgain seqAfter payload placed
+    message body header fields le16 checksumOf checksumFrom withBits withBit bitsOf lastAsked endings frames without liveAfter requests mayFollow
+    keepsClockRule
+computed = tt
+
 abbrev polls : ℕ → Call
 polls clock = poll (zeros (total maxLen)) clock
 
@@ -49,14 +56,10 @@ pub record Unheard (past : List Entry) : Type 0 where
   pub left : liveAfter past ≡ []
 
 pub unheard-ends : Unheard (run liveMax (start 38) unheard .past)
-unfolding run step firstOf malformed flights twoEqual some-of polling.act earliest firstFree isLive idAfter oldest due mayGoAgain seqAfter payload placed
-    message body header fields le16 checksumOf checksumFrom withBits withBit bitsOf lastAsked endings frames without liveAfter requests mayFollow
-    keepsClockRule
+unfolding computed
 unheard-ends = record { kept = refl; asked = refl; ended = refl; sent = refl; left = refl }
 
 -- a reading that is later than the quiet time allows breaks the rule
 pub too-late : keepsClockRule (run liveMax (start 38) (submit table.fields [] true 0 ∷ polls 0 ∷ polls 0 ∷ polls 1001 ∷ []) .past) ≡ false
-unfolding run step firstOf malformed flights twoEqual some-of polling.act earliest firstFree isLive idAfter oldest due mayGoAgain seqAfter payload placed
-    message body header fields le16 checksumOf checksumFrom withBits withBit bitsOf lastAsked endings frames without liveAfter requests mayFollow
-    keepsClockRule
+unfolding computed
 too-late = refl

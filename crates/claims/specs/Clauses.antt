@@ -58,7 +58,7 @@ pub data Fate (h : List Entry) (a : Asked) : Type 0 where
   is-live : a ∈ liveAfter h → endings (a .place) h ≡ 0 → Fate h a
   has-ended : endings (a .place) h ≡ 1 → Fate h a
 
--- "live IDs .. distinct"
+-- no two live requests have one ID
 abbrev pub DistinctIds : List Asked → Type 0
 DistinctIds [] = Unit
 DistinctIds (a ∷ rest) = All (λ b. b .id ≡ a .id → ⊥) rest × DistinctIds rest

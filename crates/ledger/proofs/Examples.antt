@@ -22,15 +22,20 @@ use Rattle.ledger.specs.FaultRuns.{faultRuns}
 use Rattle.ledger.specs.ItemRuns.{itemRuns}
 use Rattle.ledger.specs.RefusalRuns.{refusalRuns}
 
+-- all that a table is computed with
+computed : Unit {0}
+unfolding AreTrue IsTrue Agrees step firstOf malformed flights twoEqual some-of polling.act earliest ledger.receive onMessage onData matches firstFree isLive idAfter oldest
+    isRepeat seenAfter due mayGoAgain seqAfter payload isCommand answers receive taken smallest placed scan dropped stands rules payloadOf
+    allowed message body header fields le16 checksumOf checksumFrom withBits withBit bitsOf
+computed = tt
+
 infixr 4 _also_
 _also_ : {A B : Type 0} → A → B → A × B
 a also b = (a, b)
 
 -- each is computed: an equation for a checksum or a message, two for a call, and one for the bytes held in the end
 pub examples : AreTrue table
-unfolding AreTrue IsTrue Agrees step firstOf malformed flights twoEqual some-of polling.act earliest ledger.receive onMessage onData matches firstFree isLive idAfter oldest
-    isRepeat seenAfter due mayGoAgain seqAfter payload isCommand answers receive taken smallest placed scan dropped stands rules payloadOf
-    allowed message body header fields le16 checksumOf checksumFrom withBits withBit bitsOf
+unfolding computed
 examples =
     refl
     also refl
@@ -50,16 +55,12 @@ examples =
 
 -- and the runs that show the faults
 pub fault-runs : AreTrue faultRuns
-unfolding AreTrue IsTrue Agrees step firstOf malformed flights twoEqual some-of polling.act earliest ledger.receive onMessage onData matches firstFree isLive idAfter oldest
-    isRepeat seenAfter due mayGoAgain seqAfter payload isCommand answers receive taken smallest placed scan dropped stands rules payloadOf
-    allowed message body header fields le16 checksumOf checksumFrom withBits withBit bitsOf
+unfolding computed
 fault-runs = (refl, refl, refl) also (refl, refl, (refl, refl, refl)) also (refl, refl, (refl, refl, refl)) also (refl, refl, (refl, refl, (refl, refl, refl))) also tt
 
 -- the runs of items
 pub item-runs : AreTrue itemRuns
-unfolding AreTrue IsTrue Agrees step firstOf malformed flights twoEqual some-of polling.act earliest ledger.receive onMessage onData matches firstFree isLive idAfter oldest
-    isRepeat seenAfter due mayGoAgain seqAfter payload isCommand answers receive taken smallest placed scan dropped stands rules payloadOf
-    allowed message body header fields le16 checksumOf checksumFrom withBits withBit bitsOf
+unfolding computed
 item-runs =
     (refl, refl, refl)
     also (refl, refl, refl)
@@ -75,9 +76,7 @@ item-runs =
 
 -- and the refusals
 pub refusal-runs : AreTrue refusalRuns
-unfolding AreTrue IsTrue Agrees step firstOf malformed flights twoEqual some-of polling.act earliest ledger.receive onMessage onData matches firstFree isLive idAfter oldest
-    isRepeat seenAfter due mayGoAgain seqAfter payload isCommand answers receive taken smallest placed scan dropped stands rules payloadOf
-    allowed message body header fields le16 checksumOf checksumFrom withBits withBit bitsOf
+unfolding computed
 refusal-runs =
     (refl, refl, refl)
     also (refl, refl, refl)

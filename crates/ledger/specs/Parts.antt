@@ -30,8 +30,8 @@ pub record Request : Type 0 where
   pub wanted : Bool
   pub state : State
 
--- "R, the clock, the next SEQ, the next request ID, the controller's last SEQ, and .. live requests, oldest first"; beside these
--- "the held bytes". R is how many IDs, from 1 up, are reserved for events
+-- "R, the clock, the next SEQ .., the next request ID, the controller's last SEQ .., and .. live requests, oldest first"; beside
+-- these "the held bytes". R is how many IDs, from 1 up, are reserved for events
 pub record Ledger : Type 0 where
   pub reserved : ℕ
   pub clock : ℕ

@@ -68,7 +68,7 @@ module _ (l : Ledger) (clock : ℕ) where
   sends f nextSeq before it after =
       let bytes = frameBytes it (f .seq) in does (sent (length bytes)) bytes nextSeq (before ++ (withState (inFlight f) it ∷ after))
 
-  -- 1. "The oldest waiting request with clock minus since at least 3,000 ms ends, *no response*."
+  -- 1. "The oldest waiting request with clock minus since at least 3,000 ms (house) ends, *no response*."
   abbrev pub step1 : (overdue : Search (Unit {0})) → Option Act
   step1 nobody = none
   step1 (somebody before it what after) = some (ends noResponse before it after)

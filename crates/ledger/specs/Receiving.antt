@@ -135,7 +135,7 @@ module _ (l : Ledger) (clock : ℕ) where
       (if (eqb type dataSeq) (onSequenced seq payload)
       (onData payload)))
 
-  -- an item: "Damaged header or payload: reply NAK, whatever TYPE the header shows. Forbidden: no reply."
+  -- an item: "Damaged header or payload: reply NAK, whatever TYPE the header shows (house). Forbidden: no reply."
   abbrev pub act : line.Answer → (payload : List ℕ) → Act
   act more payload = only noWord
   act (item damagedHeader) payload = replying nakMessage (only noWord)

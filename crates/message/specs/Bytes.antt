@@ -69,7 +69,7 @@ dataNsq = 0x00
 abbrev pub maxLen : ℕ
 maxLen = 256
 
--- "ACK and NAK have LEN 0. Data frames have LEN 1 to 256. Anything else is forbidden."
+-- "ACK and NAK have LEN 0. Data frames have LEN 1 to 256 (upper end house). Anything else is forbidden."
 unfoldable pub allowed : ℕ → ℕ → Bool
 allowed type len =
     if (eqb type ack || eqb type nak) (eqb len 0)
