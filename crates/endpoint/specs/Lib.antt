@@ -1,0 +1,3 @@
+pub mod Endpoint
+pub mod Malformed
+pub mod Code

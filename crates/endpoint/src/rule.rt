@@ -1,0 +1,146 @@
+// The malformed rule (document 01, "Malformed means one of").
+ghost use mathlib.Core.Path.{_≡_};
+ghost use Prim.Native.Nat.{_≤_};
+ghost use lib.ListN.{drop};
+ghost use Rattle.ledger.specs.Parts.{liveMax};
+ghost use Rattle.ledger.specs.Submitting.{isLive};
+ghost use Rattle.ledger.specs.Refusals.{isOutside, flights, fliesOnce};
+ghost use Rattle.endpoint.specs.Endpoint.{stateOf, rowsOf};
+ghost use Rattle.endpoint.specs.Malformed.{bareOf, malformed};
+ghost use Rattle.endpoint.specs.Code.{badState, badRequest, someBad};
+use crate::Endpoint;
+use crate::LIVE_MAX;
+use crate::RESERVED_MAX;
+use crate::Request;
+use crate::Requests;
+use crate::State;
+use command::RequestId;
+use command::writer::is_too_long;
+use line::HELD_MAX;
+use link::frame::MAX_TRANSMISSIONS;
+
+// Whether an endpoint is malformed.
+// Ruled out: two requests in flight let through, and an endpoint refused that the rule does not name.
+pub fn is_malformed(e: Endpoint) -> bool
+    ensures { λ r. ⌜ r ≡ malformed e ⌝ }
+{
+    if RESERVED_MAX < e.reserved {
+        return true;
+    }
+    let live = e.live;
+    if LIVE_MAX < live.count {
+        return true;
+    }
+    let next = e.next;
+    if is_outside(e.reserved, next) {
+        return true;
+    }
+    if HELD_MAX < e.held {
+        return true;
+    }
+    if 1 < in_flight(live) {
+        return true;
+    }
+    some_bad(live, e.reserved, e.clock)
+}
+
+// Whether an ID is outside R + 1 to 65535.
+fn is_outside(reserved: u64, id: RequestId) -> bool
+    ensures { λ r. ⌜ r ≡ isOutside reserved (id .0) ⌝ }
+{
+    id.0 as u64 <= reserved
+}
+
+// How many requests are in flight.
+fn in_flight(live: Requests) -> usize
+    requires { ⌜ live .count ≤ liveMax ⌝ }
+    ensures { λ r. ⌜ r ≡ flights (bareOf (rowsOf live)) ⌝ }
+{
+    let count = live.count;
+    let mut flying = 0;
+    let mut i = 0;
+    while i < count {
+        let q = live.rows[i];
+        let state = q.state;
+        flying += flies(state);
+        i += 1;
+    }
+    flying
+}
+
+// 1 for a request in flight.
+fn flies(state: State) -> usize
+    ensures { λ r. ⌜ r ≡ fliesOnce (stateOf state) ⌝ }
+{
+    match state {
+        State::Queued => 0,
+        State::InFlight(_) => 1,
+        State::Waiting(_) => 0,
+    }
+}
+
+// Whether some request breaks the rule by itself, or has the ID of a later one.
+fn some_bad(live: Requests, reserved: u64, clock: u64) -> bool
+    requires { ⌜ live .count ≤ liveMax ⌝ }
+    ensures { λ r. ⌜ r ≡ someBad reserved clock (rowsOf live) ⌝ }
+{
+    let count = live.count;
+    let mut i = 0;
+    while i < count {
+        let q = live.rows[i];
+        if is_bad(q, reserved, clock) {
+            return true;
+        }
+        let id = q.id;
+        if is_among(live, id, i + 1) {
+            return true;
+        }
+        i += 1;
+    }
+    false
+}
+
+// Whether an ID is live in a row from one on.
+fn is_among(live: Requests, id: RequestId, from: usize) -> bool
+    requires { ⌜ (from ≤ live .count) × (live .count ≤ liveMax) ⌝ }
+    ensures { λ r. ⌜ r ≡ isLive (id .0) (bareOf (drop from (rowsOf live))) ⌝ }
+{
+    let count = live.count;
+    let mut i = from;
+    while i < count {
+        let q = live.rows[i];
+        if q.id.0 == id.0 {
+            return true;
+        }
+        i += 1;
+    }
+    false
+}
+
+// Whether a request breaks the rule by itself.
+fn is_bad(q: Request, reserved: u64, clock: u64) -> bool
+    ensures { λ r. ⌜ r ≡ badRequest reserved clock q ⌝ }
+{
+    let id = q.id;
+    if is_outside(reserved, id) {
+        return true;
+    }
+    if is_too_long(q.len) {
+        return true;
+    }
+    let state = q.state;
+    is_bad_state(state, q.wanted, clock)
+}
+
+// Whether a state breaks the rule: transmissions not 1 to 3, waiting where no response is wanted, a time later than the clock.
+fn is_bad_state(state: State, wanted: bool, clock: u64) -> bool
+    ensures { λ r. ⌜ r ≡ badState clock wanted (stateOf state) ⌝ }
+{
+    match state {
+        State::Queued => false,
+        State::InFlight(f) => {
+            f.transmissions < 1 || MAX_TRANSMISSIONS < f.transmissions || clock < f.sent
+        }
+        State::Waiting(since) => !wanted || clock < since,
+    }
+}

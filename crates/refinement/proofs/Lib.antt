@@ -1,0 +1,4 @@
+pub mod Clauses
+pub mod Rows
+pub mod Sound
+pub mod Times
