@@ -1,0 +1,77 @@
+-- `decisions::stepping::next_step` meets its contract: each `return` is a case of what the searches found.
+use mathlib.Core.Path.{_≡_, sym, _∙_}
+use native.Mathlib.Omega.{arith}
+use lib.ListN.{length, length-map}
+use borrow.Author.Needs.{needs}
+use Rattle.ledger.specs.Parts.{liveMax}
+use Rattle.live.specs.declared.Query.the-variants.{Overdue, Flying, Queued}
+use Rattle.decisions.proofs.Searched.{Searched}
+use Rattle.decisions.proofs.Stepped.{steps-overdue, steps-frame, steps-first, steps-quiet}
+use Rattle.decisions.proofs.stepping.next_step.Statement.{statement}
+use Rattle.decisions.proofs.stepping.next_step.Tie as tie
+
+full : (c : tie.Start) → length (c .args .t1 .rows) ≡ liveMax
+full c = sym (length-map (c .args .t1 .rows) _) ∙ c .good .0 .1 .1 .0 .1 .0 .1
+
+-- the rows that the searches answer
+overdue : (c : tie.After-find) → Searched (c .before .args .t1) (Overdue (c .before .args .clock)) (c .find .result)
+overdue c = record { full = full (c .before); few = c .before .pre; is = c .find .ensures }
+
+flying : (c : tie.After-find2) → Searched (c .before .before .args .t1) Flying (c .find2 .result)
+flying c = let s = c .before .before in record { full = full s; few = s .pre; is = c .find2 .ensures }
+
+queued : (c : tie.After-find3) → Searched (c .before .before .before .before .before .args .t1) Queued (c .find3 .result)
+queued c =
+    let s = c .before .before .before .before .before in record { full = full s; few = s .pre; is = c .find3 .ensures }
+
+find-requires : tie.Need-find-requires
+find-requires c κs = search needs
+
+find-requires-2 : tie.Need-find-requires-2
+find-requires-2 c κs = search needs
+
+returns : tie.Need-returns
+returns c = steps-overdue (overdue (c .before .before)) (omega arith)
+
+mul-q : tie.Need-mul-q
+mul-q c = search needs
+
+element-copy-out-q : tie.Need-element-copy-out-q
+element-copy-out-q c = search needs
+
+frame-step-requires : tie.Need-frame-step-requires
+frame-step-requires c κs = search needs
+
+returns-2 : tie.Need-returns-2
+returns-2 c =
+    let found = c .before .before .before .before in
+    steps-frame (overdue (found .before)) (omega arith) (flying found) (omega arith) (c .frame-step .result)
+    (c .frame-step .ensures)
+
+find-requires-3 : tie.Need-find-requires-3
+find-requires-3 c κs = search needs
+
+returns-3 : tie.Need-returns-3
+returns-3 c =
+    let found = c .before .before .before .before in
+    steps-first (overdue (found .before)) (omega arith) (flying found) (omega arith) (queued (c .before)) (omega arith)
+
+returns-4 : tie.Need-returns-4
+returns-4 c =
+    let found = c .before .before .before .before in
+    steps-quiet (overdue (found .before)) (omega arith) (flying found) (omega arith) (queued (c .before)) (omega arith)
+
+pub next-step-spec : {M : Type 1} → statement M
+next-step-spec =
+    tie.close
+    (tie.spec
+    find-requires
+    find-requires-2
+    returns
+    mul-q
+    element-copy-out-q
+    frame-step-requires
+    returns-2
+    find-requires-3
+    returns-3
+    returns-4)

@@ -1,0 +1,1 @@
+// What is claimed of every chain of calls on an endpoint: definitions and proofs, no code.
