@@ -35,6 +35,23 @@ pub fn messages(length: usize) -> Vec<u8> {
     bytes
 }
 
+/// Events for an endpoint with R = 38, without a gap, of which no two that follow one another have the same SEQ.
+pub fn events(length: usize) -> Vec<u8> {
+    let mut bytes = messages(length);
+    let mut place = 0;
+    while place < length {
+        let len = usize::from(u16::from_le_bytes([bytes[place + 3], bytes[place + 4]]));
+        let mut payload = bytes[place + 8..place + 8 + len].to_vec();
+        // the first byte of a command, and RQID
+        payload[0] = 0x80;
+        payload[5] = 1 + payload[5] % 38;
+        payload[6] = 0;
+        let seq = bytes[place + 5];
+        place += binding::write(&mut bytes, place, DATA_SEQ, seq, &payload);
+    }
+    bytes
+}
+
 /// Messages with a bit changed in every hundredth byte.
 pub fn damaged(length: usize) -> Vec<u8> {
     let mut bytes = messages(length);

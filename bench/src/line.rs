@@ -5,7 +5,8 @@ mod plain;
 
 use crate::checksum;
 use binding::line::{Line, Received, MORE};
-use plain::Plain;
+pub use header::Header;
+pub use plain::Plain;
 
 /// Bytes of a piece.
 pub const PIECE: usize = 64;

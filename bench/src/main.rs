@@ -1,7 +1,9 @@
-//! The proved functions beside Rust ones of this folder, on 1 MiB each, and the program `lister` on 64 MiB.
+//! The proved functions beside Rust ones of this folder, on 1 MiB each, an endpoint's calls, and the
+//! program `lister` on 64 MiB.
 
 mod checksum;
 mod contest;
+mod host;
 mod input;
 mod line;
 mod lister;
@@ -17,6 +19,7 @@ fn main() -> std::io::Result<()> {
     checksums();
     readers();
     lines();
+    host::report();
     println!("{lister}");
     Ok(())
 }

@@ -32,16 +32,32 @@ impl Plain {
         &self.array[..self.count]
     }
 
+    /// Nothing is held.
+    pub fn clear(&mut self) {
+        self.count = 0;
+        self.header = None;
+    }
+
     /// Never inlined: the library's function is not either.
     #[inline(never)]
     pub fn receive(&mut self, new: &[u8], checksum: impl Fn(&[u8]) -> u16) -> Received {
+        self.receive_with(new, checksum, |_, _| ())
+    }
+
+    /// A message is handed on to `act` while its payload still stands where it is.
+    pub fn receive_with(
+        &mut self,
+        new: &[u8],
+        checksum: impl Fn(&[u8]) -> u16,
+        act: impl FnOnce(Header, &[u8]),
+    ) -> Received {
         if let Some(header) = self.header.take() {
-            return self.after_header(header, 0, new, checksum);
+            return self.after_header(header, 0, new, checksum, act);
         }
         self.remove(front(self.held()));
         let breaks_syn = self.count == 1 && new.first().is_some_and(|&byte| byte != SYN[1]);
         if self.count == 0 || breaks_syn {
-            return self.in_new(new, checksum);
+            return self.in_new(new, checksum, act);
         }
         let taken = HEADER.saturating_sub(self.count).min(new.len());
         self.append(&new[..taken]);
@@ -49,7 +65,7 @@ impl Plain {
             return item(MORE, taken);
         }
         match Header::read(&self.array[..HEADER], &checksum) {
-            Ok(header) => self.after_header(header, taken, new, checksum),
+            Ok(header) => self.after_header(header, taken, new, checksum, act),
             Err(rule) => {
                 self.remove(SYN.len());
                 item(rule, taken)
@@ -58,7 +74,14 @@ impl Plain {
     }
 
     /// The held bytes begin with this header, and so many of the new ones are among them.
-    fn after_header(&mut self, header: Header, before: usize, new: &[u8], checksum: impl Fn(&[u8]) -> u16) -> Received {
+    fn after_header(
+        &mut self,
+        header: Header,
+        before: usize,
+        new: &[u8],
+        checksum: impl Fn(&[u8]) -> u16,
+        act: impl FnOnce(Header, &[u8]),
+    ) -> Received {
         let (rest, len, total) = (&new[before..], header.len, OVERHEAD + header.len);
         let need = total.saturating_sub(self.count);
         if rest.len() < need {
@@ -74,6 +97,7 @@ impl Plain {
         }
         let end = last.unwrap_or_else(|| self.array[total - 1]);
         if checksum(&self.array[HEADER..HEADER + len]).to_le_bytes() == [self.array[HEADER + len], end] {
+            act(header, &self.array[HEADER..HEADER + len]);
             self.remove(total.min(self.count));
             return message(header, before + need);
         }
@@ -83,7 +107,7 @@ impl Plain {
     }
 
     /// Nothing is held, or an AA that is dropped.
-    fn in_new(&mut self, new: &[u8], checksum: impl Fn(&[u8]) -> u16) -> Received {
+    fn in_new(&mut self, new: &[u8], checksum: impl Fn(&[u8]) -> u16, act: impl FnOnce(Header, &[u8])) -> Received {
         self.count = 0;
         let dropped = front(new);
         let bytes = &new[dropped..];
@@ -106,6 +130,7 @@ impl Plain {
         }
         let (payload, behind) = behind.split_at(header.len);
         if checksum(payload).to_le_bytes() == behind[..2] {
+            act(header, payload);
             return message(header, dropped + total);
         }
         self.append(&bytes[SYN.len()..total]);
