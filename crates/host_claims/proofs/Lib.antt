@@ -1,2 +1,4 @@
 pub mod Refining
+pub mod Refused
+pub mod Received
 pub mod Laws

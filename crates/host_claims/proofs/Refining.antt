@@ -15,7 +15,9 @@ use Rattle.endpoint.specs.Malformed.{malformed}
 use Rattle.endpoint.specs.declared.Endpoint.{Endpoint}
 use Rattle.refinement.specs.Refusals.{refusalOf}
 use Rattle.refinement.proofs.Sound.{same-refusal}
+use Rattle.host.specs.Answers.{openAnswerOf}
 use Rattle.host.specs.Promises.{Outcome, ByTable, Promise}
+use Rattle.host.specs.declared.answers.Opened.{Opened}
 use Rattle.host_claims.specs.Chains.{Chain, opens, submits, receives, polls, callsIn}
 
 -- one call after a list of calls
@@ -87,10 +89,18 @@ more {given} {past} {e} {store} c o known promised =
     entry p q r = rw (p, q, r)
 
 -- every chain
-pub refines : {given : ℕ} {past : List Entry} {e : Endpoint} {store : List ℕ} → Chain given past e store
+pub refines : {given : ℕ} {first : Opened} {past : List Entry} {e : Endpoint} {store : List ℕ} → Chain given first past e store
     → Refines given past e store
 unfolding callsIn run
-refines (opens r store opened) = record { outcomes = refl; ledger = opened .next store; sound = opened .sound }
+refines (opens store opened) = record { outcomes = refl; ledger = opened .next store; sound = opened .sound }
 refines (submits chain r fields bytes wanted clock exit promised) = more _ _ (refines chain) promised
 refines (receives chain r bytes reply buffer clock exit replyExit bufferExit promised) = more _ _ (refines chain) promised
 refines (polls chain r output clock exit outputExit promised) = more _ _ (refines chain) promised
+
+-- and open's own answer
+pub opened-as : {given : ℕ} {first : Opened} {past : List Entry} {e : Endpoint} {store : List ℕ} → Chain given first past e store
+    → openAnswerOf (first .answer) ≡ open-for given .answer
+opened-as (opens store opened) = opened .answers
+opened-as (submits chain r fields bytes wanted clock exit promised) = opened-as chain
+opened-as (receives chain r bytes reply buffer clock exit replyExit bufferExit promised) = opened-as chain
+opened-as (polls chain r output clock exit outputExit promised) = opened-as chain

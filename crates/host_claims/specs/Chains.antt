@@ -15,31 +15,32 @@ use Rattle.host.specs.declared.answers.Submitted as submitting
 use Rattle.host.specs.declared.answers.Received as receiving
 use Rattle.host.specs.declared.answers.Polled as polling
 
--- what each call has answered, newest first, and the endpoint and the store afterwards. Each call is related to the next by the
+-- what open was given and has handed back, what each later call has answered, newest first, and the endpoint and the store
+-- afterwards. Each call is related to the next by the
 -- promise that its own `ensures` cites; the store that is first lent holds any bytes, and each call brings "its own input bytes and
 -- buffers, of any length and contents, and any clock"
-pub data Chain (given : ℕ) : List Entry → Endpoint → (store : List ℕ) → Type 0 where
-  opens : (r : opening.Opened) (store : List ℕ) → promise.Opened r given → Chain given [] (r .endpoint) store
-  submits : {past : List Entry} {e : Endpoint} {store : List ℕ} → Chain given past e store
+pub data Chain (given : ℕ) (first : opening.Opened) : List Entry → Endpoint → (store : List ℕ) → Type 0 where
+  opens : (store : List ℕ) → promise.Opened first given → Chain given first [] (first .endpoint) store
+  submits : {past : List Entry} {e : Endpoint} {store : List ℕ} → Chain given first past e store
       → (r : submitting.Submitted) (fields : Fields) (bytes : List ℕ) (wanted : Bool) (clock : ℕ) (exit : List ℕ)
       → promise.Submitted r e fields bytes wanted clock store exit
-      → Chain given (record {
+      → Chain given first (record {
         call = submit (fieldsOf fields) bytes wanted clock;
         answer = submitAnswerOf (r .answer);
         buffers = [];
       } ∷ past) (r .endpoint) exit
-  receives : {past : List Entry} {e : Endpoint} {store : List ℕ} → Chain given past e store
+  receives : {past : List Entry} {e : Endpoint} {store : List ℕ} → Chain given first past e store
       → (r : receiving.Received) (bytes reply buffer : List ℕ) (clock : ℕ) (exit replyExit bufferExit : List ℕ)
       → promise.Received r e bytes reply buffer clock store exit replyExit bufferExit
-      → Chain given (record {
+      → Chain given first (record {
         call = receive bytes reply buffer clock;
         answer = receiveAnswerOf (r .answer);
         buffers = replyExit ∷ bufferExit ∷ [];
       } ∷ past) (r .endpoint) exit
-  polls : {past : List Entry} {e : Endpoint} {store : List ℕ} → Chain given past e store
+  polls : {past : List Entry} {e : Endpoint} {store : List ℕ} → Chain given first past e store
       → (r : polling.Polled) (output : List ℕ) (clock : ℕ) (exit outputExit : List ℕ)
       → promise.Polled r e output clock store exit outputExit
-      → Chain given (record {
+      → Chain given first (record {
         call = poll output clock;
         answer = pollAnswerOf (r .answer);
         buffers = outputExit ∷ [];
