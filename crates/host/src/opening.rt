@@ -9,7 +9,7 @@ ghost use Rattle.endpoint.specs.Malformed.{malformed};
 ghost use Rattle.host.specs.Promises as promise;
 use crate::answers::OpenAnswer;
 use crate::answers::Opened;
-use crate::refusals::RESERVED_OVER;
+use crate::answers::RESERVED_OVER;
 use command::Fields;
 use command::RequestId;
 use endpoint::Endpoint;

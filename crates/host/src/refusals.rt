@@ -8,6 +8,11 @@ ghost use Rattle.command.specs.Payload.{maxData};
 ghost use Rattle.ledger.specs.Parts.{liveMax};
 ghost use Rattle.ledger.specs.Refusals.{line, firstOf};
 ghost use Rattle.host.specs.Code.{checkOf, withEndpoint};
+use crate::answers::ALL_LIVE;
+use crate::answers::BUFFER_SHORT;
+use crate::answers::CLOCK_BELOW;
+use crate::answers::DATA_OVER;
+use crate::answers::MALFORMED;
 use command::MAX_DATA;
 use command::writer::is_too_long;
 use endpoint::Endpoint;
@@ -15,19 +20,6 @@ use endpoint::LIVE_MAX;
 use endpoint::rule::is_malformed;
 use message::header::MAX_LEN;
 use message::header::OVERHEAD;
-
-// The numbers of the table.
-pub const MALFORMED: u8 = 1;
-
-pub const CLOCK_BELOW: u8 = 2;
-
-pub const RESERVED_OVER: u8 = 3;
-
-pub const DATA_OVER: u8 = 4;
-
-pub const ALL_LIVE: u8 = 5;
-
-pub const BUFFER_SHORT: u8 = 6;
 
 // What the table says: a refusal's number, or that the call is accepted.
 pub(crate) enum Check {
