@@ -22,7 +22,8 @@ use Rattle.endpoint.proofs.Rows.{blankRow, length-rows, rows-at}
 use Rattle.live.specs.Searching.{isShown, shows, firstWhere}
 use Rattle.live.specs.Changing.{at, after}
 use Rattle.live.specs.declared.Query.{Query}
-use Rattle.live.proofs.Found.{oldest-none, oldest-some, found-shows, shows-rows, length-requests, request-at}
+use Rattle.live.proofs.Found.{oldest-none, oldest-some, found-shows, shows-rows}
+use Rattle.live.proofs.Listing.{length-requests, requests-at}
 
 -- a row that a search answers, in rows within their array
 pub record Searched (live : Requests) (query : Query) (row : ℕ) : Type 0 where
@@ -46,12 +47,12 @@ rowAt live i = getD (live .rows) i blankRow
 
 module _ (live : Requests) (store : List ℕ) (full : length (live .rows) ≡ liveMax) (few : live .count ≤ liveMax) where
   length-live : length (liveOf live store) ≡ live .count
-  length-live = length-requests (rowsOf live) 0 store ∙ length-rows live full few
+  length-live = length-requests 0 (rowsOf live) store ∙ length-rows live full few
 
   pub at-row : (i : ℕ) → i < live .count → at i (liveOf live store) ≡ requestOf (rowAt live i) (roomAt store i (rowAt live i .len))
   at-row i less =
       let place : 0 + i ≡ i = omega arith in
-      request-at (rowsOf live) 0 store i (omega (arith, length-rows live full few)) ∙ rw (rows-at live full few i less, place)
+      requests-at 0 i (rowsOf live) store (omega (arith, length-rows live full few)) ∙ rw (rows-at live full few i less, place)
 
   module _ {A : Type 0} (f : ledger.Request → Option A) (query : Query) (asks : Asks f query) where
     first : firstWhere (λ q. isShown (f q)) (liveOf live store) ≡ firstWhere (λ q. shows query (requestOf q [])) (rowsOf live)

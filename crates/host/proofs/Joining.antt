@@ -24,22 +24,17 @@ use Rattle.endpoint.specs.declared.Endpoint.{Endpoint}
 use Rattle.endpoint.specs.declared.Request.{Request}
 use Rattle.endpoint.specs.declared.Requests.{Requests}
 use Rattle.endpoint.specs.declared.State.the-variants.{Queued}
-use Rattle.endpoint.proofs.Rows.{length-rows}
 use Rattle.live.specs.Changing.{Becomes}
-use Rattle.live.proofs.Found.{length-requests, free-rows}
+use Rattle.live.proofs.Becoming.{length-live}
+use Rattle.live.proofs.Found.{free-rows}
 use Rattle.refinement.specs.Refusals.{refusalOf}
-use Rattle.refinement.proofs.Sound.{few-of, held-of}
+use Rattle.refinement.proofs.Sound.{few-of, held-of, fits-of}
 use Rattle.host.specs.Promises.{submitOutcome}
 use Rattle.host.specs.Code.{withEndpoint, Sound, Does}
 use Rattle.host.specs.declared.answers.SubmitAnswer.the-variants as answer
 use Rattle.host.specs.declared.answers.Submitted.{Submitted}
 use Rattle.host.proofs.Held.{held-same}
 use Rattle.host.proofs.Table.{first-holds, passed, own-passed}
-
--- how many are live
-pub count-live : (e : Endpoint) (store : List ℕ) → length (e .live .rows) ≡ liveMax → e .live .count ≤ liveMax
-    → length (liveOf (e .live) store) ≡ e .live .count
-count-live e store three few = length-requests (rowsOf (e .live)) 0 store ∙ length-rows (e .live) three few
 
 module _ (e : Endpoint) (fields : Fields) (wanted : Bool) (clock : ℕ) (store bytes : List ℕ) (three : length (e .live .rows) ≡ liveMax)
     (ready : Sound e clock) where
@@ -49,7 +44,7 @@ module _ (e : Endpoint) (fields : Fields) (wanted : Bool) (clock : ℕ) (store b
   found-id id found =
       found
       ∙ sym (ap (λ (n : ℕ). firstFree n (e .reserved) (liveOf (e .live) store) (e .next .0))
-      (count-live e store three (few-of e (ready .sound)))
+      (length-live (e .live) three (fits-of e (ready .sound)) store)
       ∙ free-rows (e .live .count) (e .reserved) (rowsOf (e .live)) 0 store (e .next .0))
 
   -- the request that joins
@@ -97,7 +92,7 @@ submit-table e store fields bytes wanted clock three = go (malformed e) refl
         → firstOf (withEndpoint e clock (line 4 (ltb maxData (length bytes)) ∷ line 5 (eqb (e .live .count) liveMax) ∷ []))
         ≡ refusalOf e store (call.submit fields bytes wanted clock)
     go true bad = first-holds 1 (malformed e) _ bad ∙ sym (first-holds 1 (malformed e) _ bad)
-    go false fine = rw (count-live e store three (few-of e fine))
+    go false fine = rw (length-live (e .live) three (fits-of e fine) store)
 
 -- an accepted submit has room for its data and its request
 pub record Room (e : Endpoint) (bytes : List ℕ) : Type 0 where

@@ -1,17 +1,13 @@
 -- What the effects of a poll come to: what the ledger does by the same step.
-use Prim.Native.Nat.{ℕ, _+_, _-_, _≤_, _<_}
-use mathlib.Core.List.{List, [], _∷_, _++_}
+use Prim.Native.Nat.{ℕ, _-_, _≤_, _<_}
+use mathlib.Core.List.{List, [], _∷_}
 use mathlib.Core.Option.{Option, none, some, Option·map}
 use mathlib.Core.Path.{_≡_, refl, sym, ap, _∙_}
-use native.Mathlib.Nat.{zero-add}
-use native.Mathlib.Omega.{arith}
 use lib.Dec.{ltb}
-use lib.ListN.{length, take, getD}
+use lib.ListN.{length, getD}
 use borrow.Author.Tests.{ltb-false}
 use Rattle.message.specs.Bytes.{total, maxLen}
-use Rattle.message.specs.Writing.{placed}
 use Rattle.message.specs.declared.Seq.{Seq}
-use Rattle.line.specs.Receiving.{heldMax}
 use Rattle.link.specs.Frames as link
 use Rattle.link.specs.Frames.{firstSent}
 use Rattle.link.specs.Promises.{frameOf}
@@ -22,35 +18,29 @@ use Rattle.ledger.specs.Answers.{polled, quiet}
 use Rattle.ledger.specs.Polling.{frameBytes, earliest, step4, polledAs, poll}
 use Rattle.ledger.specs.Refusals.{line, firstOf}
 use Rattle.ledger.specs.declared.Cause.{Cause}
-use Rattle.endpoint.specs.Endpoint.{requestOf, roomAt, rowsOf, liveOf, ledgerOf}
+use Rattle.endpoint.specs.Endpoint.{rowsOf, liveOf, ledgerOf}
 use Rattle.endpoint.specs.Malformed.{bareOf}
 use Rattle.endpoint.specs.declared.Endpoint.{Endpoint}
 use Rattle.endpoint.specs.declared.Requests.{Requests}
 use Rattle.endpoint.specs.declared.State.the-variants.{InFlight}
-use Rattle.endpoint.proofs.Rows.{blankRow, length-rows, rows-at}
+use Rattle.endpoint.proofs.Rows.{blankRow}
 use Rattle.live.specs.Changing.{at, changed, Becomes}
 use Rattle.live.specs.Deadlines.{timeOf, leftOf}
 use Rattle.live.specs.declared.Change.the-variants.{Turn, End}
 use Rattle.live.specs.declared.deadline.Time.{Time}
 use Rattle.live.specs.declared.deadline.Time.the-variants.{Never, In}
-use Rattle.live.proofs.Found.{request-at, earliest-rows}
+use Rattle.live.proofs.Becoming.{live-at}
+use Rattle.live.proofs.Found.{earliest-rows}
 use Rattle.frames.specs.Promises.{Put}
 use Rattle.decisions.specs.Steps.{stepOf, sentFrom, Reaches, Steps}
 use Rattle.decisions.specs.declared.stepping.Step.{Step}
 use Rattle.decisions.specs.declared.stepping.Step.the-variants as step
-use Rattle.refinement.proofs.Sound.{few-of, held-of, fits-of}
+use Rattle.refinement.proofs.Sound.{held-of, fits-of}
 use Rattle.host.specs.Promises.{Outcome, pollOutcome}
 use Rattle.host.specs.Code.{withEndpoint, Sound, Does}
 use Rattle.host.specs.declared.answers.PollAnswer.the-variants as answer
 use Rattle.host.proofs.Held.{placed-none, held-same}
 use Rattle.host.proofs.Table.{passed, own-passed}
-
--- a live request is its row with the bytes in its room
-pub live-at : (live : Requests) (store : List ℕ) (i : ℕ) → length (live .rows) ≡ liveMax → live .count ≤ liveMax → i < live .count
-    → at i (liveOf live store) ≡ requestOf (getD (live .rows) i blankRow) (roomAt store i (getD (live .rows) i blankRow .len))
-live-at live store i three few less =
-    let found = request-at (rowsOf live) 0 store i (rw (length-rows live three few) less) in
-    rw (rows-at live three few i less, zero-add i) at found
 
 -- the endpoint after a poll
 abbrev pub polledEndpoint : Endpoint → (live : Requests) (seq : Seq) (clock : ℕ) → Endpoint
@@ -70,7 +60,7 @@ module _ (e : Endpoint) (clock : ℕ) (store : List ℕ) (ready : Sound e clock)
       }) exit output)
   ended row cause live after exit output three less becomes back =
       let held = held-same (e .held) store exit (held-of e (ready .sound)) (becomes .holds) in
-      let it = live-at (e .live) store row three (few-of e (ready .sound)) less in
+      let it = live-at (e .live) three (fits-of e (ready .sound)) store row less in
       rw back (record {
         answers = rw it;
         leaves = rw (placed-none output);

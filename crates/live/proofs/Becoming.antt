@@ -46,11 +46,11 @@ module _ (live : Requests) (full : length (live .rows) ≡ liveMax) (fits : Fits
   count : length (rowsOf live) ≡ live .count
   count = length-rows live full (fits .few)
 
-  length-live : (s : List ℕ) → length (liveOf live s) ≡ live .count
+  pub length-live : (s : List ℕ) → length (liveOf live s) ≡ live .count
   length-live s = length-requests 0 (rowsOf live) s ∙ count
 
   -- the live request in a row, and that its data are not too long
-  live-at : (s : List ℕ) (i : ℕ) → i < live .count
+  pub live-at : (s : List ℕ) (i : ℕ) → i < live .count
       → at i (liveOf live s) ≡ requestOf (getD (live .rows) i blankRow) (roomAt s i (getD (live .rows) i blankRow .len))
   live-at s i less =
       rw (requests-at 0 i (rowsOf live) s (omega (arith, count)), zero-add i, rows-at live full (fits .few) i less)

@@ -136,20 +136,6 @@ unfolding firstFree
 free-rows zero r rows k store id = refl
 free-rows (suc n) r rows k store id = rw (live-rows id rows k store, free-rows n r rows k store (idAfter r id))
 
-pub length-requests : (rows : List Request) (k : ℕ) (store : List ℕ) → length (requestsFrom k rows store) ≡ length rows
-unfolding requestsFrom
-length-requests [] k store = refl
-length-requests (q ∷ qs) k store = ap suc (length-requests qs (suc k) store)
-
--- the request in a place is that of its row, with the bytes in its room
-pub request-at : (rows : List Request) (k : ℕ) (store : List ℕ) (i : ℕ) → i < length rows
-    → getD (requestsFrom k rows store) i blank ≡ requestOf (getD rows i blankRow) (roomAt store (k + i) (getD rows i blankRow .len))
-unfolding requestsFrom
-request-at [] k store i less = absurd (omega arith)
-request-at (q ∷ qs) k store zero less = let same : k + 0 ≡ k = omega arith in rw same
-request-at (q ∷ qs) k store (suc i) less =
-    let same : k + suc i ≡ suc k + i = omega arith in rw same (request-at qs (suc k) store i (omega arith))
-
 -- what a query asks ignores the data
 pub shows-bare : (query : Query) (q : Request) (b : List ℕ) → shows query (requestOf q b) ≡ shows query (requestOf q [])
 unfolding matches

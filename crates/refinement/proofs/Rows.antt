@@ -5,24 +5,19 @@ use mathlib.Core.Bool.{Bool, false, _||_}
 use mathlib.Core.List.{List, [], _∷_}
 use mathlib.Core.Path.{_≡_, refl, ap}
 use native.Mathlib.Omega.{arith}
-use lib.Dec.{eqb, ltb}
+use lib.Dec.{ltb}
 use lib.ListN.{length, length-take}
 use borrow.Author.Tests.{ltb-false, le-ltb}
 use Rattle.command.specs.Payload.{maxData}
 use Rattle.ledger.specs.Parts as ledger
-use Rattle.ledger.specs.Submitting.{isLive}
 use Rattle.ledger.specs.Refusals.{some-of, twoEqual, fliesOnce, flights}
 use Rattle.endpoint.specs.Endpoint.{stateOf, roomAt, requestsFrom}
 use Rattle.endpoint.specs.Malformed.{bareOf, tooLong}
 use Rattle.endpoint.specs.declared.Request.{Request}
 use Rattle.endpoint.proofs.Order.{neither}
+use Rattle.live.proofs.Found.{live-rows}
 
 module _ (store : List ℕ) where
-  pub same-length : (i : ℕ) (rows : List Request) → length (requestsFrom i rows store) ≡ length rows
-  unfolding requestsFrom
-  same-length i [] = refl
-  same-length i (q ∷ qs) = ap suc (same-length (suc i) qs)
-
   -- a test of the ID, of whether a response is wanted, and of the state
   pub same-some : (test : ℕ → Bool → ledger.State → Bool) (i : ℕ) (rows : List Request)
       → some-of (λ q. test (q .id) (q .wanted) (q .state)) (requestsFrom i rows store)
@@ -31,15 +26,10 @@ module _ (store : List ℕ) where
   same-some test i [] = refl
   same-some test i (q ∷ qs) = ap (test (q .id .0) (q .wanted) (stateOf (q .state)) ||_) (same-some test (suc i) qs)
 
-  same-live : (id i : ℕ) (rows : List Request) → isLive id (requestsFrom i rows store) ≡ isLive id (bareOf rows)
-  unfolding requestsFrom isLive
-  same-live id i [] = refl
-  same-live id i (q ∷ qs) = ap (eqb (q .id .0) id ||_) (same-live id (suc i) qs)
-
   pub same-equal : (i : ℕ) (rows : List Request) → twoEqual (requestsFrom i rows store) ≡ twoEqual (bareOf rows)
   unfolding requestsFrom twoEqual
   same-equal i [] = refl
-  same-equal i (q ∷ qs) = rw (same-live (q .id .0) (suc i) qs, same-equal (suc i) qs)
+  same-equal i (q ∷ qs) = rw (live-rows (q .id .0) qs (suc i) store, same-equal (suc i) qs)
 
   pub same-flights : (i : ℕ) (rows : List Request) → flights (requestsFrom i rows store) ≡ flights (bareOf rows)
   unfolding requestsFrom flights

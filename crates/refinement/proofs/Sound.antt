@@ -25,7 +25,8 @@ use Rattle.live.specs.Changing.{Fits}
 use Rattle.refinement.specs.Refusals.{refusalOf}
 use Rattle.refinement.proofs.Clauses as clauses
 use Rattle.refinement.proofs.Clauses.{clauses}
-use Rattle.refinement.proofs.Rows.{same-length, same-some, same-equal, same-flights, short-data}
+use Rattle.live.proofs.Listing.{length-requests}
+use Rattle.refinement.proofs.Rows.{same-some, same-equal, same-flights, short-data}
 
 -- a ledger that is not malformed is fine
 pub fine-of : (limit : ℕ) (l : Ledger) → ledger.malformed limit l ≡ false → Fine limit l
@@ -39,7 +40,7 @@ ledger-sound e store h =
     let rows = rowsOf (e .live) in
     let live = liveOf (e .live) store in
     let flying = f .flying in
-    let few : length live ≤ liveMax = simp (same-length, length-take) (omega arith) in
+    let few : length live ≤ liveMax = simp (length-requests, length-take) (omega arith) in
     let held : length (take (e .held) store) ≤ heldMax = simp length-take (omega arith) in
     rw (
       le-ltb reservedMax (e .reserved) (f .reserved),

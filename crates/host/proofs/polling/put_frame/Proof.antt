@@ -16,9 +16,8 @@ use Rattle.endpoint.specs.declared.Request.{Request}
 use Rattle.endpoint.specs.declared.Requests.{Requests}
 use Rattle.endpoint.proofs.Rows.{blankRow}
 use Rattle.live.specs.Changing.{at, Fits}
-use Rattle.live.proofs.Becoming.{len-at}
+use Rattle.live.proofs.Becoming.{live-at, len-at}
 use Rattle.frames.specs.Promises.{Put}
-use Rattle.host.proofs.Stepping.{live-at}
 use Rattle.host.proofs.polling.put_frame.Statement.{statement}
 use Rattle.host.proofs.polling.put_frame.Tie as tie
 
@@ -38,7 +37,7 @@ whole : (live : Requests) (store : List ℕ) (row place seq count : ℕ) (entry 
 whole live store row place seq count entry exit full fits less there put =
     let q = getD (live .rows) row blankRow in
     let n : place + q .len - place ≡ q .len = omega arith in
-    rw (live-at live store row full (fits .few) less, ← there) (rw n at put)
+    rw (live-at live full fits store row less, ← there) (rw n at put)
 
 mul-q : tie.Need-mul-q
 mul-q c = search needs
