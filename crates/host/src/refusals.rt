@@ -37,7 +37,7 @@ fn check_endpoint(e: Endpoint, clock: u64) -> Check
     if clock < e.clock {
         return Check::Refused(CLOCK_BELOW);
     }
-    Check::Accepted
+    Check::Accepted // neither 1 nor 2
 }
 
 // Submit: 1, 2, then "data over 248 bytes" and "three live".

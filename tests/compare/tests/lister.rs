@@ -1,8 +1,8 @@
 //! The program `lister` beside the independent listing: document 01's example, and generated captures.
 
 use compare::captures::{groups, Group};
-use compare::lister::{file, list, list_in_single_bytes, list_in_writes};
 use compare::listings::Tally;
+use compare::program::{file, LISTER};
 use compare::Random;
 use independent::examples::example_of_the_lister;
 use independent::listing::listing;
@@ -10,7 +10,7 @@ use std::process::Output;
 
 /// The program with the capture in a file.
 fn list_file(name: &str, capture: &[u8]) -> Output {
-    list(file(env!("CARGO_TARGET_TMPDIR"), name, capture))
+    LISTER.run(file(env!("CARGO_TARGET_TMPDIR"), name, capture))
 }
 
 #[test]
@@ -41,9 +41,9 @@ fn in_small_writes() {
     for Group { captures, .. } in groups(&mut random) {
         for capture in [0, captures.len() / 2, captures.len() - 1].map(|place| &captures[place]) {
             for size in [1, 7, 64, 265] {
-                tally.agree(capture, &list_in_writes(capture, size));
+                tally.agree(capture, &LISTER.run_in_writes(capture, size));
             }
-            tally.agree(capture, &list_in_single_bytes(capture));
+            tally.agree(capture, &LISTER.run_in_single_bytes(capture));
         }
     }
     tally.report("small writes", [500, 500, 500, 500, 500, 500, 25], 5);

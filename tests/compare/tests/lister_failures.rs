@@ -1,10 +1,10 @@
 //! The program `lister` where it cannot read or cannot write: it says so, and prints no whole listing.
 
-use compare::lister::{file, list, program};
+use compare::program::{file, LISTER};
 use compare::stored::long;
 use independent::examples::example_of_the_lister;
 use std::fs::File;
-use std::process::{Command, Output, Stdio};
+use std::process::Output;
 
 /// Something stands on standard error, and what was printed does not end as a listing does.
 fn failed(what: &str, output: &Output) {
@@ -26,30 +26,19 @@ fn captures(purpose: &str) -> [File; 2] {
 fn standard_input_cannot_be_read() {
     // a directory opens as a file does, and each read of it fails
     let directory = File::open(env!("CARGO_TARGET_TMPDIR")).expect("the directory opens");
-    failed("standard input is a directory", &list(directory));
+    failed("standard input is a directory", &LISTER.run(directory));
 }
 
 #[test]
 fn standard_output_has_no_room() {
     for capture in captures("no-room") {
-        let full = File::options().write(true).open("/dev/full").expect("/dev/full opens");
-        let output = Command::new(program())
-            .stdin(capture)
-            .stdout(full)
-            .stderr(Stdio::piped())
-            .output();
-        failed("standard output is full", &output.expect("the program starts"));
+        failed("standard output is full", &LISTER.run_without_room(capture));
     }
 }
 
 #[test]
 fn standard_output_is_closed() {
     for capture in captures("closed") {
-        let output = Command::new("sh")
-            .args(["-c", "exec \"$0\" >&-"])
-            .arg(program())
-            .stdin(capture)
-            .output();
-        failed("standard output is closed", &output.expect("the program starts"));
+        failed("standard output is closed", &LISTER.run_with_closed_output(capture));
     }
 }

@@ -10,5 +10,6 @@ pub mod listing;
 pub mod message;
 pub mod random;
 pub mod reader;
+pub mod session;
 pub mod vectors;
 pub mod writer;

@@ -1,0 +1,20 @@
+// What is wrong with a script.
+pub enum Fault {
+    Nothing,
+    // the line does not begin with a call
+    UnknownCall,
+    // the first call is not open, or a later one is
+    NotOpened,
+    OpenedBefore,
+    // a field is missing, or is not what stands in its place
+    MissingField,
+    NotNumber,
+    LeadingZero,
+    TooLarge,
+    NotWanted,
+    NotPairs,
+    TooManyBytes,
+    // more than the call's fields, or more than a line may have
+    TextAfter,
+    LongLine,
+}

@@ -1,0 +1,138 @@
+-- The answer to each call as text (docs/SESSION-SCRIPT.md), in the order of the answer's parts.
+use Prim.Native.Nat.{ℕ, _+_}
+use mathlib.Core.Bool.{Bool, true, false}
+use mathlib.Core.List.{List, _++_}
+use lib.ListN.{length}
+use Rattle.message.specs.declared.reader.Item.{Item}
+use Rattle.message.specs.declared.reader.Item.the-variants.{DamagedHeader, Forbidden, DamagedPayload, Message}
+use Rattle.line.specs.declared.Answer.{Answer}
+use Rattle.line.specs.declared.Answer.the-variants.{More, One}
+use Rattle.command.specs.declared.Fields.{Fields}
+use Rattle.ledger.specs.declared.Cause.{Cause}
+use Rattle.ledger.specs.declared.Cause.the-variants.{Acknowledged, Response, NoResponse, NoAcknowledgement}
+use Rattle.ledger.specs.declared.Ending.{Ending}
+use Rattle.host.specs.declared.answers.OpenAnswer.{OpenAnswer}
+use Rattle.host.specs.declared.answers.OpenAnswer.the-variants as opening
+use Rattle.host.specs.declared.answers.SubmitAnswer.{SubmitAnswer}
+use Rattle.host.specs.declared.answers.SubmitAnswer.the-variants as submitting
+use Rattle.ledger.specs.declared.Command.{Command}
+use Rattle.ledger.specs.declared.Word.{Word}
+use Rattle.ledger.specs.declared.Word.the-variants as words
+use Rattle.host.specs.declared.answers.Ended.{Ended}
+use Rattle.host.specs.declared.answers.Ended.the-variants as endings
+use Rattle.host.specs.declared.answers.Receipt.{Receipt}
+use Rattle.host.specs.declared.answers.ReceiveAnswer.{ReceiveAnswer}
+use Rattle.host.specs.declared.answers.ReceiveAnswer.the-variants as receiving
+use Rattle.host.specs.declared.answers.PollAnswer.{PollAnswer}
+use Rattle.host.specs.declared.answers.PollAnswer.the-variants as polling
+use Rattle.transcript.specs.Text.{ascii, named, shownAs, pairsRoom}
+
+-- a message, with TYPE, SEQ and LEN, or what was found in its place
+unfoldable pub oneText : Item → List ℕ
+oneText DamagedHeader = ascii "damaged-header"
+oneText Forbidden = ascii "forbidden"
+oneText DamagedPayload = ascii "damaged-payload"
+oneText (Message type seq len) = named (ascii "message ") type ++ (named (ascii " ") (seq .0) ++ named (ascii " ") len)
+
+-- the item, or that more bytes are wanted
+unfoldable pub itemText : Answer → List ℕ
+itemText More = ascii "more"
+itemText (One i) = oneText i
+
+-- TC, TID and SID
+unfoldable pub addressText : Fields → List ℕ
+addressText f = named (ascii " ") (f .tc) ++ (named (ascii " ") (f .tid) ++ named (ascii " ") (f .sid))
+
+-- these, then IID and CID
+unfoldable pub fieldsText : Fields → List ℕ
+fieldsText f = addressText f ++ (named (ascii " ") (f .iid) ++ named (ascii " ") (f .cid))
+
+-- a command behind its word: its fields, RQID and the length of its data
+unfoldable pub commandText : List ℕ → Command → List ℕ
+commandText w c = w ++ (fieldsText (c .fields) ++ (named (ascii " ") (c .id .0) ++ named (ascii " ") (c .len)))
+
+-- the word that a message earned
+unfoldable pub wordText : Word → List ℕ
+wordText words.Nothing = ascii " none"
+wordText words.Stray = ascii " stray"
+wordText words.Repeat = ascii " repeat"
+wordText words.NotCommand = ascii " not-a-command"
+wordText (words.Event c) = commandText (ascii " event") c
+wordText (words.Response c) = commandText (ascii " response") c
+wordText (words.Unmatched c) = commandText (ascii " unmatched") c
+
+-- a length and bytes behind a name
+unfoldable pub lentText : List ℕ → ℕ → List ℕ → List ℕ
+lentText name len bytes = named name len ++ (ascii " " ++ shownAs bytes)
+
+-- why a request ended
+unfoldable pub causeText : Cause → List ℕ
+causeText Acknowledged = ascii " acknowledged"
+causeText Response = ascii " response"
+causeText NoResponse = ascii " no-response"
+causeText NoAcknowledgement = ascii " no-acknowledgement"
+
+-- an ending
+unfoldable pub endingText : Ending → List ℕ
+endingText e = named (ascii "ended ") (e .id .0) ++ causeText (e .cause)
+
+-- the ending that a receive reports
+unfoldable pub endedText : Ended → List ℕ
+endedText endings.Nobody = ascii " no-ending"
+endedText (endings.One e) = ascii " " ++ endingText e
+
+-- open
+unfoldable pub openText : OpenAnswer → List ℕ
+openText (opening.Refused n) = named (ascii "open refused ") n
+openText opening.Opened = ascii "opened"
+
+-- submit
+unfoldable pub submitText : SubmitAnswer → List ℕ
+submitText (submitting.Refused n) = named (ascii "submit refused ") n
+submitText (submitting.Submitted id) = named (ascii "submitted ") (id .0)
+
+-- receive: the item and the word
+unfoldable pub judgedText : Answer → Word → List ℕ
+judgedText i w = ascii "received " ++ (itemText i ++ wordText w)
+
+-- then the bytes taken, the reply, the data and the ending
+unfoldable pub receiptText : Receipt → List ℕ → List ℕ → List ℕ
+receiptText r reply bytes =
+    judgedText (r .item) (r .word)
+    ++ (named (ascii " taken ") (r .taken)
+    ++ (lentText (ascii " reply ") (r .replied) reply
+    ++ (lentText (ascii " data ") (length bytes) bytes
+    ++ endedText (r .ending))))
+
+unfoldable pub receiveText : ReceiveAnswer → List ℕ → List ℕ → List ℕ
+receiveText (receiving.Refused n) reply bytes = named (ascii "receive refused ") n
+receiveText (receiving.Received r) reply bytes = receiptText r reply bytes
+
+-- poll
+unfoldable pub pollText : PollAnswer → List ℕ → List ℕ
+pollText (polling.Refused n) frame = named (ascii "poll refused ") n
+pollText (polling.Sent len) frame = lentText (ascii "sent ") len frame
+pollText (polling.Ended e) frame = endingText e
+pollText (polling.Quiet ms) frame = named (ascii "quiet ") ms
+pollText polling.NoDeadline frame = ascii "no-deadline"
+
+-- the end of a line, and whether bytes were touched that should not have been
+unfoldable pub endText : Bool → List ℕ
+endText true = ascii " touched\n"
+endText false = ascii "\n"
+
+-- room for each, in bytes
+abbrev pub openRoom : ℕ
+openRoom = 33
+
+abbrev pub submitRoom : ℕ
+submitRoom = 35
+
+abbrev pub receiveRoom : List ℕ → List ℕ → ℕ
+receiveRoom reply bytes = 366 + (pairsRoom reply + pairsRoom bytes)
+
+abbrev pub pollRoom : List ℕ → ℕ
+pollRoom frame = 45 + pairsRoom frame
+
+abbrev pub endRoom : ℕ
+endRoom = 9
