@@ -25,7 +25,7 @@ pub fn report() {
     quiet_polls();
     sends();
     receives();
-    println!("host: the Rust endpoint is changed in place and is not tested for being malformed");
+    println!("host: the Rust endpoint is changed in place; it tests the malformed rule too");
 }
 
 fn submits() {

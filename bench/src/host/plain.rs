@@ -1,6 +1,5 @@
 //! A plain endpoint to compare with, by document 01's rules for open, submit, receive and poll. It is changed in place, a request
-//! that ends moves no data, and its fields are its own: it is never malformed, and does not test for that. Its
-//! calls are never inlined.
+//! that ends moves no data. Each call tests first whether it is malformed, by the same rule. Its calls are never inlined.
 
 use super::frames::Fields;
 use crate::line::Plain as Line;
@@ -16,6 +15,7 @@ const MOST_LIVE: usize = 3;
 pub const MOST_DATA: usize = 248;
 
 /// Refusal numbers.
+const MALFORMED: u8 = 1;
 const CLOCK_BELOW: u8 = 2;
 const R_OVER: u8 = 3;
 const DATA_OVER: u8 = 4;
@@ -110,9 +110,7 @@ impl Plain {
 impl Book {
     #[inline(never)]
     pub fn submit(&mut self, fields: Fields, data: &[u8], wanted: bool, clock: u64) -> Result<u16, u8> {
-        if clock < self.clock {
-            return Err(CLOCK_BELOW);
-        }
+        self.check(clock)?;
         if data.len() > MOST_DATA {
             return Err(DATA_OVER);
         }
@@ -137,6 +135,50 @@ impl Book {
         };
         self.count += 1;
         Ok(id)
+    }
+
+    /// Lines 1 and 2 of the table. The held bytes are the line's own, and never too many.
+    fn check(&self, clock: u64) -> Result<(), u8> {
+        if self.is_malformed() {
+            return Err(MALFORMED);
+        }
+        if clock < self.clock {
+            return Err(CLOCK_BELOW);
+        }
+        Ok(())
+    }
+
+    /// "Malformed means one of"
+    fn is_malformed(&self) -> bool {
+        if self.r > 255 || self.count > MOST_LIVE || self.is_outside(self.next_id) {
+            return true;
+        }
+        let live = &self.live[..self.count];
+        let flights = live
+            .iter()
+            .filter(|request| matches!(request.state, State::InFlight(_)));
+        if flights.count() > 1 {
+            return true;
+        }
+        let is_bad = |(row, request): (usize, &Request)| {
+            self.is_bad(request) || live[row + 1..].iter().any(|later| later.id == request.id)
+        };
+        live.iter().enumerate().any(is_bad)
+    }
+
+    /// Whether a request breaks the rule by itself.
+    fn is_bad(&self, request: &Request) -> bool {
+        let is_bad_state = match request.state {
+            State::Queued => false,
+            State::InFlight(flight) => !(1..=3).contains(&flight.transmissions) || self.clock < flight.sent,
+            State::Waiting(since) => !request.wanted || self.clock < since,
+        };
+        self.is_outside(request.id) || request.length > MOST_DATA || is_bad_state
+    }
+
+    /// Outside R + 1 to 65535.
+    fn is_outside(&self, id: u16) -> bool {
+        u64::from(id) <= self.r
     }
 
     /// "after 65535 comes R + 1"

@@ -9,8 +9,9 @@ use endpoint::Requests;
 use endpoint::State;
 use ledger::Cause;
 use link::frame::Frame;
-use live::Query;
-use live::search::find;
+use live::states::oldest_flying;
+use live::states::oldest_overdue;
+use live::states::oldest_queued;
 
 // The request in a row ends, its frame is sent again as this one, it is sent for the first time, or nothing is to be done.
 pub enum Step {
@@ -27,8 +28,8 @@ pub fn next_step(live: Requests, clock: u64) -> Step
     ensures { λ r. ⌜ Steps r live clock ⌝ }
 {
     let count = live.count;
-    let overdue = find(live, Query::Overdue(clock));
-    let flying = find(live, Query::Flying);
+    let overdue = oldest_overdue(live, clock);
+    let flying = oldest_flying(live);
     if overdue < count {
         return Step::End(overdue, Cause::NoResponse);
     }
@@ -37,7 +38,7 @@ pub fn next_step(live: Requests, clock: u64) -> Step
         let state = q.state;
         return frame_step(flying, state, clock);
     }
-    let queued = find(live, Query::Queued);
+    let queued = oldest_queued(live);
     if queued < count {
         return Step::First(queued);
     }

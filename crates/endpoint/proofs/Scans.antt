@@ -6,7 +6,6 @@ use mathlib.Core.Path.{_≡_, refl, ap, _∙_}
 use native.Mathlib.Omega.{arith}
 use lib.Dec.{eqb}
 use lib.ListN.{length, drop, getD}
-use borrow.Author.Tests.{eq-eqb, ne-eqb}
 use Rattle.ledger.specs.Parts.{liveMax}
 use Rattle.ledger.specs.Submitting.{isLive}
 use Rattle.ledger.specs.Refusals.{flights, fliesOnce}
@@ -32,15 +31,6 @@ module _ (live : Requests) (three : length (live .rows) ≡ liveMax) (few : live
       → isLive id (bareOf (drop i (rowsOf live))) ≡ (eqb (getD (live .rows) i blankRow .id .0) id || isLive id (bareOf (drop (i + 1) (rowsOf live))))
   unfolding isLive
   live-next id less = ap (λ (l : List Request). isLive id (bareOf l)) (next less)
-
-  pub live-here : (id : ℕ) → i < live .count → getD (live .rows) i blankRow .id .0 ≡ id → isLive id (bareOf (drop i (rowsOf live))) ≡ true
-  live-here id less same =
-      live-next id less ∙ ap (λ (b : Bool). b || isLive id (bareOf (drop (i + 1) (rowsOf live)))) (eq-eqb (row .id .0) id same)
-
-  pub live-later : (id : ℕ) → i < live .count → (getD (live .rows) i blankRow .id .0 ≡ id → ⊥)
-      → isLive id (bareOf (drop i (rowsOf live))) ≡ isLive id (bareOf (drop (i + 1) (rowsOf live)))
-  live-later id less other =
-      live-next id less ∙ ap (λ (b : Bool). b || isLive id (bareOf (drop (i + 1) (rowsOf live)))) (ne-eqb (row .id .0) id other)
 
   pub live-none : (id : ℕ) → live .count ≤ i → isLive id (bareOf (drop i (rowsOf live))) ≡ false
   unfolding isLive
@@ -69,15 +59,10 @@ module _ (live : Requests) (three : length (live .rows) ≡ liveMax) (few : live
         → someBad reserved clock (drop i (rowsOf live)) ≡ true
     bad-here less bad = bad-next less ∙ rw bad refl
 
-    pub bad-again : i < live .count → badRequest reserved clock (getD (live .rows) i blankRow) ≡ false
-        → isLive (getD (live .rows) i blankRow .id .0) (bareOf (drop (i + 1) (rowsOf live))) ≡ true
-        → someBad reserved clock (drop i (rowsOf live)) ≡ true
-    bad-again less good again = bad-next less ∙ rw (good, again) refl
-
-    pub bad-later : i < live .count → badRequest reserved clock (getD (live .rows) i blankRow) ≡ false
-        → isLive (getD (live .rows) i blankRow .id .0) (bareOf (drop (i + 1) (rowsOf live))) ≡ false
-        → someBad reserved clock (drop i (rowsOf live)) ≡ someBad reserved clock (drop (i + 1) (rowsOf live))
-    bad-later less good alone = bad-next less ∙ rw (good, alone) refl
+    pub bad-rest : i < live .count → badRequest reserved clock (getD (live .rows) i blankRow) ≡ false
+        → (again : Bool) → again ≡ isLive (getD (live .rows) i blankRow .id .0) (bareOf (drop (i + 1) (rowsOf live)))
+        → someBad reserved clock (drop i (rowsOf live)) ≡ (again || someBad reserved clock (drop (i + 1) (rowsOf live)))
+    bad-rest less good again e = bad-next less ∙ rw (good, e) refl
 
     pub bad-none : live .count ≤ i → someBad reserved clock (drop i (rowsOf live)) ≡ false
     unfolding someBad

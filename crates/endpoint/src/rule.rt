@@ -1,6 +1,7 @@
 // The malformed rule (document 01, "Malformed means one of").
 ghost use mathlib.Core.Path.{_≡_};
-ghost use Prim.Native.Nat.{_≤_};
+ghost use mathlib.Core.Bool.{_||_};
+ghost use Prim.Native.Nat.{_+_, _≤_};
 ghost use lib.ListN.{drop};
 ghost use Rattle.ledger.specs.Parts.{liveMax};
 ghost use Rattle.ledger.specs.Submitting.{isLive};
@@ -56,16 +57,27 @@ fn in_flight(live: Requests) -> usize
     requires { ⌜ live .count ≤ liveMax ⌝ }
     ensures { λ r. ⌜ r ≡ flights (bareOf (rowsOf live)) ⌝ }
 {
-    let count = live.count;
     let mut flying = 0;
     let mut i = 0;
-    while i < count {
-        let q = live.rows[i];
-        let state = q.state;
-        flying += flies(state);
+    while i < LIVE_MAX {
+        flying += flies_at(live, i);
         i += 1;
     }
     flying
+}
+
+// 1 for a row in use whose request is in flight.
+fn flies_at(live: Requests, row: usize) -> usize
+    requires { ⌜ live .count ≤ liveMax ⌝ }
+    ensures { λ r. ⌜ (r ≤ 1)
+        × (flights (bareOf (drop row (rowsOf live))) ≡ r + flights (bareOf (drop (row + 1) (rowsOf live)))) ⌝ }
+{
+    if live.count <= row {
+        return 0;
+    }
+    let q = live.rows[row];
+    let state = q.state;
+    flies(state)
 }
 
 // 1 for a request in flight.
@@ -84,15 +96,9 @@ fn some_bad(live: Requests, reserved: u64, clock: u64) -> bool
     requires { ⌜ live .count ≤ liveMax ⌝ }
     ensures { λ r. ⌜ r ≡ someBad reserved clock (rowsOf live) ⌝ }
 {
-    let count = live.count;
     let mut i = 0;
-    while i < count {
-        let q = live.rows[i];
-        if is_bad(q, reserved, clock) {
-            return true;
-        }
-        let id = q.id;
-        if is_among(live, id, i + 1) {
+    while i < LIVE_MAX {
+        if is_bad_at(live, i, reserved, clock) {
             return true;
         }
         i += 1;
@@ -100,21 +106,47 @@ fn some_bad(live: Requests, reserved: u64, clock: u64) -> bool
     false
 }
 
-// Whether an ID is live in a row from one on.
-fn is_among(live: Requests, id: RequestId, from: usize) -> bool
+// Whether a row is in use and its request breaks the rule by itself, or has the ID of a later one.
+fn is_bad_at(live: Requests, row: usize, reserved: u64, clock: u64) -> bool
+    requires { ⌜ live .count ≤ liveMax ⌝ }
+    ensures { λ r. ⌜ someBad reserved clock (drop row (rowsOf live)) ≡ (r || someBad reserved clock (drop (row + 1) (rowsOf live))) ⌝ }
+{
+    if live.count <= row {
+        return false;
+    }
+    let q = live.rows[row];
+    if is_bad(q, reserved, clock) {
+        return true;
+    }
+    let id = q.id;
+    is_among(live, id, row + 1)
+}
+
+// Whether an ID is live in a row from one on. Asks for rows within their array and that one among them or behind the last in use.
+pub fn is_among(live: Requests, id: RequestId, from: usize) -> bool
     requires { ⌜ (from ≤ live .count) × (live .count ≤ liveMax) ⌝ }
     ensures { λ r. ⌜ r ≡ isLive (id .0) (bareOf (drop from (rowsOf live))) ⌝ }
 {
-    let count = live.count;
-    let mut i = from;
-    while i < count {
-        let q = live.rows[i];
-        if q.id.0 == id.0 {
+    let mut i = 0;
+    while i < LIVE_MAX {
+        if has_id(live, from + i, id) {
             return true;
         }
         i += 1;
     }
     false
+}
+
+// Whether a row is in use by a request with this ID.
+fn has_id(live: Requests, row: usize, id: RequestId) -> bool
+    requires { ⌜ live .count ≤ liveMax ⌝ }
+    ensures { λ r. ⌜ isLive (id .0) (bareOf (drop row (rowsOf live))) ≡ (r || isLive (id .0) (bareOf (drop (row + 1) (rowsOf live)))) ⌝ }
+{
+    if live.count <= row {
+        return false;
+    }
+    let q = live.rows[row];
+    q.id.0 == id.0
 }
 
 // Whether a request breaks the rule by itself.

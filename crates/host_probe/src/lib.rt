@@ -9,7 +9,9 @@ use crate::steps::acknowledge;
 use crate::steps::fresh;
 use crate::steps::hand_in;
 use crate::steps::poll_at;
+use crate::steps::poll_once;
 use crate::steps::submit_some;
+use crate::steps::with_poll;
 use command::MAX_DATA;
 use endpoint::STORE_LENGTH;
 
@@ -62,13 +64,18 @@ fn send_three(
 pub extern "C" fn fizrahum_probe_quiet_polls(polls: u64) -> u64 {
     let mut store = [0; STORE_LENGTH];
     let mut output = [0; OUTPUT_LENGTH];
-    let mut tally = busy(&mut store, &mut output);
+    let start = busy(&mut store, &mut output);
+    let mut e = start.endpoint;
+    let mut sum = start.sum;
     let mut left = polls;
     while 0 < left {
-        tally = poll_at(tally, &mut store, &mut output, 0);
+        let done = poll_once(e, &mut store, &mut output, 0);
+        let answer = done.answer;
+        e = done.endpoint;
+        sum = with_poll(sum, answer, &output);
         left -= 1;
     }
-    tally.sum
+    sum
 }
 
 // An endpoint with one request waiting, one in flight and one queued.

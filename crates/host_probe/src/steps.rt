@@ -5,6 +5,7 @@ use endpoint::Endpoint;
 use endpoint::STORE_LENGTH;
 use host::answers::Ended;
 use host::answers::PollAnswer;
+use host::answers::Polled;
 use host::answers::Receipt;
 use host::answers::ReceiveAnswer;
 use host::answers::SubmitAnswer;
@@ -80,7 +81,17 @@ fn submit_number(answer: SubmitAnswer) -> u64 {
     }
 }
 
-// A poll; of a frame that is sent, its SEQ and the bytes where its checksum stands count too.
+// A poll with an output of its least length.
+pub(crate) fn poll_once(
+    e: Endpoint,
+    store: &mut [u8; STORE_LENGTH],
+    output: &mut [u8; OUTPUT_LENGTH],
+    clock: u64,
+) -> Polled {
+    poll(e, store, output, clock)
+}
+
+// A poll, with its answer counted.
 pub(crate) fn poll_at(
     tally: Tally,
     store: &mut [u8; STORE_LENGTH],
@@ -88,12 +99,17 @@ pub(crate) fn poll_at(
     clock: u64,
 ) -> Tally {
     let before = tally.endpoint;
-    let done = poll(before, store, output, clock);
+    let done = poll_once(before, store, output, clock);
     let answer = done.answer;
     let endpoint = done.endpoint;
-    let seen = wide(output[5]) ^ (wide(output[32]) << 8) ^ (wide(output[33]) << 16);
-    let sum = counted(tally.sum, poll_number(answer) ^ (seen << 32));
+    let sum = with_poll(tally.sum, answer, output);
     Tally { endpoint, sum }
+}
+
+// The number with the answer of a poll more; of a frame that is sent, its SEQ and the bytes where its checksum stands count too.
+pub(crate) fn with_poll(sum: u64, answer: PollAnswer, output: &[u8; OUTPUT_LENGTH]) -> u64 {
+    let seen = wide(output[5]) ^ (wide(output[32]) << 8) ^ (wide(output[33]) << 16);
+    counted(sum, poll_number(answer) ^ (seen << 32))
 }
 
 fn poll_number(answer: PollAnswer) -> u64 {

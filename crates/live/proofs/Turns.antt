@@ -7,7 +7,6 @@ use mathlib.Core.Path.{_≡_, refl, sym, ap, _∙_}
 use native.Mathlib.Numerals.{add-one}
 use native.Mathlib.Omega.{arith}
 use lib.ListN.{length, drop, getD}
-use borrow.Author.Tests.{eq-eqb, ne-eqb}
 use Rattle.ledger.specs.Parts as ledger
 use Rattle.ledger.specs.Parts.{liveMax}
 use Rattle.ledger.specs.Submitting.{idAfter, isLive, firstFree}
@@ -51,20 +50,6 @@ module _ (live : Requests) (three : length (live .rows) ≡ liveMax) (few : live
     pub find-end : live .count ≤ i → i ≡ firstWhere test (rowsOf live)
     unfolding firstWhere
     find-end less = let end = ap (firstWhere test) (rows-end live three few i less) in omega arith
-
-  -- the ID: it is live where it is in what is left
-  module _ (id : ℕ) (passed : isLive id (bareOf (rowsOf live)) ≡ isLive id (bareOf (rest live i))) where
-    pub live-here : i < live .count → row live i .id .0 ≡ id → true ≡ isLive id (bareOf (rowsOf live))
-    unfolding isLive
-    live-here less h = sym (passed ∙ rw (next less, eq-eqb (row live i .id .0) id h))
-
-    pub live-on : i < live .count → (row live i .id .0 ≡ id → ⊥) → isLive id (bareOf (rowsOf live)) ≡ isLive id (bareOf (rest live (i + 1)))
-    unfolding isLive
-    live-on less h = passed ∙ rw (next less, ne-eqb (row live i .id .0) id h)
-
-    pub live-end : live .count ≤ i → false ≡ isLive id (bareOf (rowsOf live))
-    unfolding isLive
-    live-end less = sym (passed ∙ rw (rows-end live three few i less))
 
   -- the times
   module _ (clock : ℕ) (best : Option ℕ) (awaits : Awaits live clock i best) where

@@ -7,6 +7,7 @@ ghost use Rattle.endpoint.specs.Endpoint.{stateOf, rowsOf};
 ghost use Rattle.endpoint.specs.Malformed.{bareOf};
 ghost use Rattle.live.specs.Deadlines.{timeOf, leftOf, NoneLate, IsInTime};
 use crate::RESPONSE_TIME;
+use endpoint::LIVE_MAX;
 use endpoint::Requests;
 use endpoint::State;
 
@@ -24,7 +25,10 @@ pub fn time_left(live: Requests, clock: u64) -> Time
     let count = live.count;
     let mut best = Time::Never;
     let mut i = 0;
-    while i < count {
+    while i < LIVE_MAX {
+        if count <= i {
+            return best;
+        }
         let q = live.rows[i];
         let state = q.state;
         let own = left_in(state, clock);

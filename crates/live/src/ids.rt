@@ -8,6 +8,7 @@ ghost use Rattle.endpoint.specs.Malformed.{bareOf};
 use command::RequestId;
 use endpoint::LAST_ID;
 use endpoint::Requests;
+use endpoint::rule::is_among;
 
 // The first ID not live, from one on: no more are passed over than are live. Asks for rows within their array and an R that is no
 // more than 255, which the callers have seen to.
@@ -44,14 +45,5 @@ fn is_live(live: Requests, id: RequestId) -> bool
     requires { ⌜ live .count ≤ liveMax ⌝ }
     ensures { λ r. ⌜ r ≡ isLive (id .0) (bareOf (rowsOf live)) ⌝ }
 {
-    let count = live.count;
-    let mut i = 0;
-    while i < count {
-        let q = live.rows[i];
-        if q.id.0 == id.0 {
-            return true;
-        }
-        i += 1;
-    }
-    false
+    is_among(live, id, 0)
 }

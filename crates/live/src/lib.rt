@@ -1,6 +1,7 @@
 // The live requests of an endpoint, with their data in the rooms of its store (document 01, "The ledger"): searches for the oldest
 // that shows something, and the changes that a call makes.
 pub mod search; // the oldest request that shows what is looked for
+pub mod states; // the oldest request in a state
 pub mod changes; // one request turns into another state or leaves, a new one joins
 pub mod deadline; // the time to the earliest deadline
 pub mod ids; // the ID that a submit issues

@@ -51,7 +51,7 @@ fn is_shown(q: Request, query: Query) -> bool
 }
 
 // Waiting, with clock minus since at least 3,000 ms.
-fn is_overdue(state: State, clock: u64) -> bool
+pub(crate) fn is_overdue(state: State, clock: u64) -> bool
     ensures { λ r. ⌜ r ≡ isShown (overdueIn clock (stateOf state)) ⌝ }
 {
     match state {
@@ -67,7 +67,7 @@ fn is_overdue(state: State, clock: u64) -> bool
 }
 
 // In flight.
-fn is_flying(state: State) -> bool
+pub(crate) fn is_flying(state: State) -> bool
     ensures { λ r. ⌜ r ≡ isShown (frameIn (stateOf state)) ⌝ }
 {
     match state {
@@ -77,7 +77,7 @@ fn is_flying(state: State) -> bool
     }
 }
 
-fn is_queued(state: State) -> bool
+pub(crate) fn is_queued(state: State) -> bool
     ensures { λ r. ⌜ r ≡ isShown (queuedIn (stateOf state)) ⌝ }
 {
     match state {

@@ -1,6 +1,6 @@
 //! Poll.
 
-use super::{Book, Flight, State, BUFFER_SHORT, CLOCK_BELOW};
+use super::{Book, Flight, State, BUFFER_SHORT};
 use crate::host::frames::command;
 
 const OUTPUT: usize = 266;
@@ -19,9 +19,7 @@ pub enum Polled {
 impl Book {
     #[inline(never)]
     pub fn poll(&mut self, output: &mut [u8], clock: u64, checksum: impl Fn(&[u8]) -> u16) -> Result<Polled, u8> {
-        if clock < self.clock {
-            return Err(CLOCK_BELOW);
-        }
+        self.check(clock)?;
         if output.len() < OUTPUT {
             return Err(BUFFER_SHORT);
         }

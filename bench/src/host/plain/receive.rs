@@ -1,6 +1,6 @@
 //! Receive.
 
-use super::{Book, Plain, Request, State, BUFFER_SHORT, CLOCK_BELOW, MOST_DATA};
+use super::{Book, Plain, Request, State, BUFFER_SHORT, MOST_DATA};
 use crate::host::frames::{control, Fields, ACK, DATA_SEQ, MARK, NAK};
 use crate::line::Header;
 use binding::line::{self, MORE};
@@ -45,9 +45,7 @@ impl Plain {
         checksum: impl Fn(&[u8]) -> u16,
     ) -> Result<Received, u8> {
         let Plain { line, book } = self;
-        if clock < book.clock {
-            return Err(CLOCK_BELOW);
-        }
+        book.check(clock)?;
         if reply.len() < REPLY || data.len() < MOST_DATA {
             return Err(BUFFER_SHORT);
         }

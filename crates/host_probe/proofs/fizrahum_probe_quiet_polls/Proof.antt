@@ -5,10 +5,10 @@ use Rattle.host_probe.proofs.fizrahum_probe_quiet_polls.Statement.{stat
 use Rattle.host_probe.proofs.fizrahum_probe_quiet_polls.Tie as tie
 
 abbrev Inv-loop : tie.InvT-loop
-Inv-loop polls store₀ output₀ tally₀ left₀ store output tally left = Unit {0}
+Inv-loop polls store₀ output₀ e₀ sum₀ left₀ store output e sum left = Unit {0}
 
 abbrev μ-loop : tie.MeasureT-loop
-μ-loop polls store₀ output₀ tally₀ left₀ store output tally left = left
+μ-loop polls store₀ output₀ e₀ sum₀ left₀ store output e sum left = left
 
 busy-requires : tie.Need-busy-requires Inv-loop μ-loop
 busy-requires c κs = search needs
@@ -16,8 +16,11 @@ busy-requires c κs = search needs
 loop-holds : tie.Need-loop-holds Inv-loop μ-loop
 loop-holds c = search needs
 
-poll-at-requires : tie.Need-poll-at-requires Inv-loop μ-loop
-poll-at-requires c κs = search needs
+poll-once-requires : tie.Need-poll-once-requires Inv-loop μ-loop
+poll-once-requires c κs = search needs
+
+with-poll-requires : tie.Need-with-poll-requires Inv-loop μ-loop
+with-poll-requires c κs = search needs
 
 sub-left : tie.Need-sub-left Inv-loop μ-loop
 sub-left c = search needs
@@ -39,7 +42,8 @@ fizrahum-probe-quiet-polls-spec =
     μ-loop
     busy-requires
     loop-holds
-    poll-at-requires
+    poll-once-requires
+    with-poll-requires
     sub-left
     loop-less
     loop-again

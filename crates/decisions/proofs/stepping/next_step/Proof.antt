@@ -14,21 +14,21 @@ full : (c : tie.Start) → length (c .args .t1 .rows) ≡ liveMax
 full c = sym (length-map (c .args .t1 .rows) _) ∙ c .good .0 .1 .1 .0 .1 .0 .1
 
 -- the rows that the searches answer
-overdue : (c : tie.After-find) → Searched (c .before .args .t1) (Overdue (c .before .args .clock)) (c .find .result)
-overdue c = record { full = full (c .before); few = c .before .pre; is = c .find .ensures }
+overdue : (c : tie.After-oldest-overdue) → Searched (c .before .args .t1) (Overdue (c .before .args .clock)) (c .oldest-overdue .result)
+overdue c = record { full = full (c .before); few = c .before .pre; is = c .oldest-overdue .ensures }
 
-flying : (c : tie.After-find2) → Searched (c .before .before .args .t1) Flying (c .find2 .result)
-flying c = let s = c .before .before in record { full = full s; few = s .pre; is = c .find2 .ensures }
+flying : (c : tie.After-oldest-flying) → Searched (c .before .before .args .t1) Flying (c .oldest-flying .result)
+flying c = let s = c .before .before in record { full = full s; few = s .pre; is = c .oldest-flying .ensures }
 
-queued : (c : tie.After-find3) → Searched (c .before .before .before .before .before .args .t1) Queued (c .find3 .result)
+queued : (c : tie.After-oldest-queued) → Searched (c .before .before .before .before .before .args .t1) Queued (c .oldest-queued .result)
 queued c =
-    let s = c .before .before .before .before .before in record { full = full s; few = s .pre; is = c .find3 .ensures }
+    let s = c .before .before .before .before .before in record { full = full s; few = s .pre; is = c .oldest-queued .ensures }
 
-find-requires : tie.Need-find-requires
-find-requires c κs = search needs
+oldest-overdue-requires : tie.Need-oldest-overdue-requires
+oldest-overdue-requires c κs = search needs
 
-find-requires-2 : tie.Need-find-requires-2
-find-requires-2 c κs = search needs
+oldest-flying-requires : tie.Need-oldest-flying-requires
+oldest-flying-requires c κs = search needs
 
 returns : tie.Need-returns
 returns c = steps-overdue (overdue (c .before .before)) (omega arith)
@@ -48,8 +48,8 @@ returns-2 c =
     steps-frame (overdue (found .before)) (omega arith) (flying found) (omega arith) (c .frame-step .result)
     (c .frame-step .ensures)
 
-find-requires-3 : tie.Need-find-requires-3
-find-requires-3 c κs = search needs
+oldest-queued-requires : tie.Need-oldest-queued-requires
+oldest-queued-requires c κs = search needs
 
 returns-3 : tie.Need-returns-3
 returns-3 c =
@@ -65,13 +65,13 @@ pub next-step-spec : {M : Type 1} → statement M
 next-step-spec =
     tie.close
     (tie.spec
-    find-requires
-    find-requires-2
+    oldest-overdue-requires
+    oldest-flying-requires
     returns
     mul-q
     element-copy-out-q
     frame-step-requires
     returns-2
-    find-requires-3
+    oldest-queued-requires
     returns-3
     returns-4)

@@ -1,40 +1,44 @@
 -- `endpoint::rule::is_among` meets its contract: the rows left give the answer.
-use Prim.Native.Nat.{_-_, _≤_}
-use mathlib.Core.Path.{_≡_, refl, sym, _∙_}
+use Prim.Native.Nat.{ℕ, _+_, _-_, _≤_}
+use mathlib.Core.Bool.{Bool, _||_}
+use mathlib.Core.Path.{_≡_, refl, sym, ap, _∙_}
 use native.Mathlib.Omega.{arith}
 use lib.ListN.{length, length-map, drop}
 use Rattle.ledger.specs.Submitting.{isLive}
 use Rattle.endpoint.specs.Endpoint.{rowsOf}
 use Rattle.endpoint.specs.Malformed.{bareOf}
-use Rattle.endpoint.proofs.Scans.{live-here, live-later, live-none}
+use Rattle.endpoint.proofs.Scans.{live-none}
 use Rattle.endpoint.proofs.rule.is_among.Statement.{statement}
 use Rattle.endpoint.proofs.rule.is_among.Tie as tie
 
 abbrev Inv-loop : tie.InvT-loop
-Inv-loop id from live count i₀ i =
-    (i ≤ count) × (isLive (id .0) (bareOf (drop i (rowsOf live))) ≡ isLive (id .0) (bareOf (drop from (rowsOf live))))
+Inv-loop live id from i₀ i =
+    (i ≤ 3) × (isLive (id .0) (bareOf (drop (from + i) (rowsOf live))) ≡ isLive (id .0) (bareOf (drop from (rowsOf live))))
 
 abbrev μ-loop : tie.MeasureT-loop
-μ-loop id from live count i₀ i = count - i
+μ-loop live id from i₀ i = 3 - i
 
-three : (c : tie.Start Inv-loop μ-loop) → length (c .args .t1 .rows) ≡ 3
-three c = sym (length-map (c .args .t1 .rows) _) ∙ c .good .0 .1 .1 .0 .1 .0 .1
+three : (c : tie.Start Inv-loop μ-loop) → length (c .args .live .rows) ≡ 3
+three c = sym (length-map (c .args .live .rows) _) ∙ c .good .0 .1 .1 .0 .1 .0 .1
 
 loop-holds : tie.Need-loop-holds Inv-loop μ-loop
-loop-holds c = (omega arith, refl)
+loop-holds c =
+    let a = c .args in
+    let same : a .from + 0 ≡ a .from = omega arith in
+    (omega arith, ap (λ (n : ℕ). isLive (a .id .0) (bareOf (drop n (rowsOf (a .live))))) same)
 
-mul-q : tie.Need-mul-q Inv-loop μ-loop
-mul-q c = omega arith
+add-has-id : tie.Need-add-has-id Inv-loop μ-loop
+add-has-id c = omega arith
 
-element-copy-out-q : tie.Need-element-copy-out-q Inv-loop μ-loop
-element-copy-out-q c = omega arith
+has-id-requires : tie.Need-has-id-requires Inv-loop μ-loop
+has-id-requires c κs = c .before .before .pre .1
 
 returns : tie.Need-returns Inv-loop μ-loop
 returns c =
-    let a = c .before .before .before .before .before .before in
-    let l = c .before .before .before .before .before .loop in
-    let less = c .before .before .before .before .loop-test .taken in
-    sym (sym (l .inv .1) ∙ live-here (a .args .t1) (three a) (a .pre .1) (l .i) (a .args .id .0) less (c .if1 .taken))
+    let a = c .before .before .before .before .args in
+    let l = c .before .before .before .loop in
+    let later = isLive (a .id .0) (bareOf (drop (a .from + l .i + 1) (rowsOf (a .live)))) in
+    sym (sym (l .inv .1) ∙ (c .before .has-id .ensures ∙ ap (λ (b : Bool). b || later) (c .if1 .taken)))
 
 add-i : tie.Need-add-i Inv-loop μ-loop
 add-i c = omega arith
@@ -44,17 +48,19 @@ loop-less c = omega arith
 
 loop-again : tie.Need-loop-again Inv-loop μ-loop
 loop-again c =
-    let a = c .before .before .before .before .before .before in
-    let l = c .before .before .before .before .before .loop in
-    let less = c .before .before .before .before .loop-test .taken in
-    let later = live-later (a .args .t1) (three a) (a .pre .1) (l .i) (a .args .id .0) less (c .if1 .left) in
-    (omega arith, sym later ∙ l .inv .1)
+    let a = c .before .before .before .before .args in
+    let l = c .before .before .before .loop in
+    let later = isLive (a .id .0) (bareOf (drop (a .from + l .i + 1) (rowsOf (a .live)))) in
+    let sum : a .from + (l .i + 1) ≡ a .from + l .i + 1 = omega arith in
+    let on = ap (λ (n : ℕ). isLive (a .id .0) (bareOf (drop n (rowsOf (a .live))))) sum in
+    let here = c .before .has-id .ensures ∙ ap (λ (b : Bool). b || later) (c .if1 .left) in
+    (omega arith, on ∙ (sym here ∙ l .inv .1))
 
 returns-2 : tie.Need-returns-2 Inv-loop μ-loop
 returns-2 c =
     let a = c .before .before in
     let l = c .before .loop in
-    sym (sym (l .inv .1) ∙ live-none (a .args .t1) (three a) (a .pre .1) (l .i) (a .args .id .0) (c .loop-test .left))
+    sym (sym (l .inv .1) ∙ live-none (a .args .live) (three a) (a .pre .1) (a .args .from + l .i) (a .args .id .0) (omega arith))
 
 pub is-among-spec : {M : Type 1} → statement M
 is-among-spec =
@@ -63,8 +69,8 @@ is-among-spec =
     Inv-loop
     μ-loop
     loop-holds
-    mul-q
-    element-copy-out-q
+    add-has-id
+    has-id-requires
     returns
     add-i
     loop-less

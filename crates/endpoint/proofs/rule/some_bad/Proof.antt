@@ -1,59 +1,37 @@
 -- `endpoint::rule::some_bad` meets its contract: the rows left give the answer.
-use Prim.Native.Nat.{_-_, _≤_}
-use mathlib.Core.Path.{_≡_, refl, sym, _∙_}
+use Prim.Native.Nat.{_+_, _-_, _≤_}
+use mathlib.Core.Bool.{Bool, _||_}
+use mathlib.Core.Path.{_≡_, refl, sym, ap, _∙_}
 use native.Mathlib.Omega.{arith}
 use lib.ListN.{length, length-map, drop}
-use borrow.Author.Needs.{needs}
 use Rattle.endpoint.specs.Code.{someBad}
 use Rattle.endpoint.specs.Endpoint.{rowsOf}
-use Rattle.endpoint.proofs.Scans.{bad-here, bad-again, bad-later, bad-none}
+use Rattle.endpoint.proofs.Scans.{bad-none}
 use Rattle.endpoint.proofs.rule.some_bad.Statement.{statement}
 use Rattle.endpoint.proofs.rule.some_bad.Tie as tie
 
 abbrev Inv-loop : tie.InvT-loop
-Inv-loop reserved clock live count i₀ i =
-    (i ≤ count) × (someBad reserved clock (drop i (rowsOf live)) ≡ someBad reserved clock (rowsOf live))
+Inv-loop live reserved clock i₀ i =
+    (i ≤ 3) × (someBad reserved clock (drop i (rowsOf live)) ≡ someBad reserved clock (rowsOf live))
 
 abbrev μ-loop : tie.MeasureT-loop
-μ-loop reserved clock live count i₀ i = count - i
+μ-loop live reserved clock i₀ i = 3 - i
 
-three : (c : tie.Start Inv-loop μ-loop) → length (c .args .t1 .rows) ≡ 3
-three c = sym (length-map (c .args .t1 .rows) _) ∙ c .good .0 .1 .1 .0 .1 .0 .1
+three : (c : tie.Start Inv-loop μ-loop) → length (c .args .live .rows) ≡ 3
+three c = sym (length-map (c .args .live .rows) _) ∙ c .good .0 .1 .1 .0 .1 .0 .1
 
 loop-holds : tie.Need-loop-holds Inv-loop μ-loop
 loop-holds c = (omega arith, refl)
 
-mul-q : tie.Need-mul-q Inv-loop μ-loop
-mul-q c = omega arith
-
-element-copy-out-q : tie.Need-element-copy-out-q Inv-loop μ-loop
-element-copy-out-q c = omega arith
-
-is-bad-requires : tie.Need-is-bad-requires Inv-loop μ-loop
-is-bad-requires c κs = search needs
+is-bad-at-requires : tie.Need-is-bad-at-requires Inv-loop μ-loop
+is-bad-at-requires c κs = c .before .before .pre
 
 returns : tie.Need-returns Inv-loop μ-loop
 returns c =
-    let a = c .before .before .before .before .before in
-    let l = c .before .before .before .before .loop in
-    let bad = sym (c .before .is-bad .ensures) ∙ c .if1 .taken in
-    let less = c .before .before .before .loop-test .taken in
-    sym (sym (l .inv .1) ∙ bad-here (a .args .t1) (three a) (a .pre) (l .i) (a .args .reserved) (a .args .clock) less bad)
-
-add-is-among : tie.Need-add-is-among Inv-loop μ-loop
-add-is-among c = omega arith
-
-is-among-requires : tie.Need-is-among-requires Inv-loop μ-loop
-is-among-requires c κs = (omega arith, c .before .before .before .before .before .before .pre)
-
-returns-2 : tie.Need-returns-2 Inv-loop μ-loop
-returns-2 c =
-    let a = c .before .before .before .before .before .before .before .before in
-    let l = c .before .before .before .before .before .before .before .loop in
-    let good = sym (c .before .before .before .before .is-bad .ensures) ∙ c .before .before .before .if1 .left in
-    let again = sym (c .before .is-among .ensures) ∙ c .if2 .taken in
-    let less = c .before .before .before .before .before .before .loop-test .taken in
-    sym (sym (l .inv .1) ∙ bad-again (a .args .t1) (three a) (a .pre) (l .i) (a .args .reserved) (a .args .clock) less good again)
+    let a = c .before .before .before .before .args in
+    let l = c .before .before .before .loop in
+    let later = someBad (a .reserved) (a .clock) (drop (l .i + 1) (rowsOf (a .live))) in
+    sym (sym (l .inv .1) ∙ (c .before .is-bad-at .ensures ∙ ap (λ (b : Bool). b || later) (c .if1 .taken)))
 
 add-i : tie.Need-add-i Inv-loop μ-loop
 add-i c = omega arith
@@ -63,20 +41,17 @@ loop-less c = omega arith
 
 loop-again : tie.Need-loop-again Inv-loop μ-loop
 loop-again c =
-    let a = c .before .before .before .before .before .before .before .before in
-    let l = c .before .before .before .before .before .before .before .loop in
-    let good = sym (c .before .before .before .before .is-bad .ensures) ∙ c .before .before .before .if1 .left in
-    let alone = sym (c .before .is-among .ensures) ∙ c .if2 .left in
-    let less = c .before .before .before .before .before .before .loop-test .taken in
-    let later =
-    bad-later (a .args .t1) (three a) (a .pre) (l .i) (a .args .reserved) (a .args .clock) less good alone in
-    (omega arith, sym later ∙ l .inv .1)
+    let a = c .before .before .before .before .args in
+    let l = c .before .before .before .loop in
+    let later = someBad (a .reserved) (a .clock) (drop (l .i + 1) (rowsOf (a .live))) in
+    let here = c .before .is-bad-at .ensures ∙ ap (λ (b : Bool). b || later) (c .if1 .left) in
+    (omega arith, sym here ∙ l .inv .1)
 
-returns-3 : tie.Need-returns-3 Inv-loop μ-loop
-returns-3 c =
+returns-2 : tie.Need-returns-2 Inv-loop μ-loop
+returns-2 c =
     let a = c .before .before in
     let l = c .before .loop in
-    sym (sym (l .inv .1) ∙ bad-none (a .args .t1) (three a) (a .pre) (l .i) (a .args .reserved) (a .args .clock) (c .loop-test .left))
+    sym (sym (l .inv .1) ∙ bad-none (a .args .live) (three a) (a .pre) (l .i) (a .args .reserved) (a .args .clock) (omega arith))
 
 pub some-bad-spec : {M : Type 1} → statement M
 some-bad-spec =
@@ -85,14 +60,9 @@ some-bad-spec =
     Inv-loop
     μ-loop
     loop-holds
-    mul-q
-    element-copy-out-q
-    is-bad-requires
+    is-bad-at-requires
     returns
-    add-is-among
-    is-among-requires
-    returns-2
     add-i
     loop-less
     loop-again
-    returns-3)
+    returns-2)

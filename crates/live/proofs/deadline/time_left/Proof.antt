@@ -14,13 +14,19 @@ abbrev Inv-loop : tie.InvT-loop
 Inv-loop clock live count best₀ i₀ best i = (i ≤ count) × Awaits live clock i (timeOf best)
 
 abbrev μ-loop : tie.MeasureT-loop
-μ-loop clock live count best₀ i₀ best i = count - i
+μ-loop clock live count best₀ i₀ best i = 3 - i
 
 three : (c : tie.Start Inv-loop μ-loop) → length (c .args .t1 .rows) ≡ 3
 three c = sym (length-map (c .args .t1 .rows) _) ∙ c .good .0 .1 .1 .0 .1 .0 .1
 
 loop-holds : tie.Need-loop-holds Inv-loop μ-loop
 loop-holds c = (omega arith, record { soonest = refl; none-late = c .pre .1 })
+
+returns : tie.Need-returns Inv-loop μ-loop
+returns c =
+    let start = c .before .before .before in
+    let turn = c .before .before .loop in
+    times-end (start .args .t1) (three start) (start .pre .0) (turn .i) (start .args .clock) (timeOf (turn .best)) (turn .inv .1) (c .if1 .taken)
 
 mul-q : tie.Need-mul-q Inv-loop μ-loop
 mul-q c = omega arith
@@ -30,8 +36,8 @@ element-copy-out-q c = omega arith
 
 left-in-requires : tie.Need-left-in-requires Inv-loop μ-loop
 left-in-requires c κs =
-    let start = c .before .before .before in
-    let turn = c .before .before .loop in
+    let start = c .before .before .before .before in
+    let turn = c .before .before .before .loop in
     times-in-time (start .args .t1) (three start) (start .pre .0) (turn .i) (start .args .clock) (timeOf (turn .best)) (turn .inv .1) (omega arith)
 
 sooner-requires : tie.Need-sooner-requires Inv-loop μ-loop
@@ -45,8 +51,8 @@ loop-less c = omega arith
 
 loop-again : tie.Need-loop-again Inv-loop μ-loop
 loop-again c =
-    let start = c .before .before .before .before .before in
-    let turn = c .before .before .before .before .loop in (
+    let start = c .before .before .before .before .before .before in
+    let turn = c .before .before .before .before .before .loop in (
       omega arith,
       times-on
           (start .args .t1)
@@ -63,8 +69,8 @@ loop-again c =
           (c .sooner .ensures),
     )
 
-returns : tie.Need-returns Inv-loop μ-loop
-returns c =
+returns-2 : tie.Need-returns-2 Inv-loop μ-loop
+returns-2 c =
     let start = c .before .before in
     let turn = c .before .loop in
     times-end (start .args .t1) (three start) (start .pre .0) (turn .i) (start .args .clock) (timeOf (turn .best)) (turn .inv .1) (omega arith)
@@ -76,6 +82,7 @@ time-left-spec =
     Inv-loop
     μ-loop
     loop-holds
+    returns
     mul-q
     element-copy-out-q
     left-in-requires
@@ -83,4 +90,4 @@ time-left-spec =
     add-i
     loop-less
     loop-again
-    returns)
+    returns-2)
