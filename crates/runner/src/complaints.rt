@@ -4,9 +4,9 @@ use script::faults::Fault;
 
 // Says on standard error which line is wrong, and what is wrong with it.
 pub(crate) fn complain(number: u64, fault: Fault) {
-    io::write_all(STDERR_FILENO, b"session: line ");
+    say(b"session: line ");
     io::print_decimal(STDERR_FILENO, number);
-    io::write_all(STDERR_FILENO, b": ");
+    say(b": ");
     explain(fault);
 }
 
@@ -28,6 +28,7 @@ fn explain(fault: Fault) {
     }
 }
 
-fn say(text: &[u8]) {
+// Says a text on standard error.
+pub(crate) fn say(text: &[u8]) {
     io::write_all(STDERR_FILENO, text);
 }

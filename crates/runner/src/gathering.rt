@@ -183,11 +183,17 @@ fn run_gathered(
         return progress;
     };
     let sheet = make_room(out, progress.used);
-    if !sheet.fine {
-        return with_next(progress, Next::WriteFailed);
-    }
     let gathered = progress.gathered;
     let session = progress.session;
+    if !sheet.fine {
+        return Progress {
+            session,
+            number: progress.number,
+            gathered,
+            used: sheet.used,
+            next: Next::WriteFailed,
+        };
+    }
     let ran = run_line(session, store, &line[..gathered], out, sheet.used);
     after_line(progress.number, ran)
 }

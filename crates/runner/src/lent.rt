@@ -33,7 +33,8 @@ pub(crate) fn put_receive(
     buffer: &[u8],
 ) -> usize
     requires { ⌜ (at + lineRoom ≤ length (now out)) × (length (now reply) ≤ lentMax) × (length (now buffer) ≤ lentMax) ⌝ }
-    ensures { λ r. ⌜ Puts lineRoom at (receiveLine answer (now (reply .entry)) (now (buffer .entry))) (now (out .entry)) (now (out .exit)) r ⌝ }
+    ensures { λ r. ⌜ Puts lineRoom at
+        (receiveLine answer (now (reply .entry)) (now (buffer .entry))) (now (out .entry)) (now (out .exit)) r ⌝ }
 {
     let replied = within(reply_length(answer), reply);
     let handed = within(data_length(answer), buffer);

@@ -6,12 +6,12 @@ mod sheet; // lines to standard output, many at a time
 mod complaints; // what is wrong with a script
 
 use crate::complaints::complain;
+use crate::complaints::say;
 use crate::gathering::Next;
 use crate::gathering::Progress;
 use crate::gathering::run_all;
 use crate::gathering::start;
 use endpoint::STORE_LENGTH;
-use libc::STDERR_FILENO;
 
 // Runs the script on standard input, and prints a line for each call on standard output. Where the script is malformed, or a read
 // or a write fails, standard error says so and nothing more is run. No contract can say what a program reads or writes: that much
@@ -34,8 +34,4 @@ fn finish(progress: Progress) {
         Next::ReadFailed => say(b"session: reading standard input failed\n"),
         Next::WriteFailed => say(b"session: writing standard output failed\n"),
     }
-}
-
-fn say(text: &[u8]) {
-    io::write_all(STDERR_FILENO, text);
 }

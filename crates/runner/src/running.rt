@@ -93,11 +93,12 @@ fn run_call(
             len,
         } => run_receive(e, store, &bytes[..len], reply, buffer, clock, out, at),
         Call::Poll { clock, output } => run_poll(e, store, output, clock, out, at),
+        // its fault was told above
         Call::Faulty(_) => not_run(session, at, Fault::Nothing),
     }
 }
 
-// What is wrong with a call, by itself or in its place: the first call is open, and there is one open only.
+// What is wrong with a call, by itself or in its place: the first one is open, and there is no second.
 fn fault_of(call: Call, opened: bool) -> Fault {
     match call {
         Call::Pass => Fault::Nothing,

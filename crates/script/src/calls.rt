@@ -105,7 +105,7 @@ fn read_submit(line: &[u8], start: Cursor, bytes: &mut [u8]) -> Call
     let fields = named.fields;
     Call::Submit {
         fields,
-        wanted: choice.first,
+        wanted: choice.wanted,
         clock: clock.value,
         len: data.count,
     }

@@ -3,7 +3,7 @@ pub enum Fault {
     Nothing,
     // the line does not begin with a call
     UnknownCall,
-    // the first call is not open, or a later one is
+    // the first call is open, and there is no second one
     NotOpened,
     OpenedBefore,
     // a field is missing, or is not what stands in its place

@@ -67,9 +67,9 @@ pub(crate) fn fault_at_end(line: &[u8], cursor: Cursor) -> Fault {
     Fault::Nothing
 }
 
-// A field that is one of two words.
+// Whether a response is wanted.
 pub(crate) struct Choice {
-    pub(crate) first: bool,
+    pub(crate) wanted: bool,
     pub(crate) after: Cursor,
 }
 
@@ -91,7 +91,7 @@ pub(crate) fn read_wanted(line: &[u8], cursor: Cursor) -> Choice {
     chosen(false, to, Fault::NotWanted)
 }
 
-fn chosen(first: bool, at: usize, fault: Fault) -> Choice {
+fn chosen(wanted: bool, at: usize, fault: Fault) -> Choice {
     let after = Cursor { at, fault };
-    Choice { first, after }
+    Choice { wanted, after }
 }

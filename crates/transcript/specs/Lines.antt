@@ -121,7 +121,37 @@ unfoldable pub endText : Bool → List ℕ
 endText true = ascii " touched\n"
 endText false = ascii "\n"
 
--- room for each, in bytes
+-- room for each, in bytes: a number is given 20
+abbrev pub itemRoom : ℕ
+itemRoom = 70
+
+abbrev pub addressRoom : ℕ
+addressRoom = 63
+
+abbrev pub fieldsRoom : ℕ
+fieldsRoom = 105
+
+abbrev pub commandRoom : List ℕ → ℕ
+commandRoom w = length w + 147
+
+abbrev pub wordRoom : ℕ
+wordRoom = 157
+
+abbrev pub judgedRoom : ℕ
+judgedRoom = 236
+
+abbrev pub lentRoom : List ℕ → List ℕ → ℕ
+lentRoom name bytes = length name + (22 + pairsRoom bytes)
+
+abbrev pub causeRoom : ℕ
+causeRoom = 19
+
+abbrev pub endingRoom : ℕ
+endingRoom = 45
+
+abbrev pub endedRoom : ℕ
+endedRoom = 46
+
 abbrev pub openRoom : ℕ
 openRoom = 33
 

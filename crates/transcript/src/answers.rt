@@ -1,9 +1,10 @@
-// The answer to each call as a line of text, put behind the first `at` bytes of a lent buffer. Each answers where it ends. All ask for
-// room, which the caller has seen to.
+// The answer to each call as a line of text, put behind the first `at` bytes of a lent buffer. Each answers where it ends, and asks
+// for room, which the caller has seen to.
 ghost use Prim.Native.Nat.{_+_, _≤_};
 ghost use lib.ListN.{length};
 ghost use Rattle.transcript.specs.Text.{Puts};
-ghost use Rattle.transcript.specs.Lines.{openText, submitText, judgedText, receiptText, receiveText, pollText, endText, openRoom, submitRoom, receiveRoom, pollRoom, endRoom};
+ghost use Rattle.transcript.specs.Lines.{openText, submitText, judgedText, receiptText, receiveText, pollText, endText};
+ghost use Rattle.transcript.specs.Lines.{openRoom, submitRoom, judgedRoom, receiveRoom, pollRoom, endRoom};
 use crate::parts::put_ended;
 use crate::parts::put_ending;
 use crate::parts::put_item;
@@ -49,8 +50,9 @@ pub fn put_received(
     reply: &[u8],
     handed: &[u8],
 ) -> usize
-    requires { ⌜ at + (receiveRoom (now reply) (now handed)) ≤ length (now out) ⌝ }
-    ensures { λ r. ⌜ Puts (receiveRoom (now (reply .entry)) (now (handed .entry))) at (receiveText answer (now (reply .entry)) (now (handed .entry))) (now (out .entry)) (now (out .exit)) r ⌝ }
+    requires { ⌜ at + receiveRoom (now reply) (now handed) ≤ length (now out) ⌝ }
+    ensures { λ r. ⌜ Puts (receiveRoom (now (reply .entry)) (now (handed .entry))) at
+        (receiveText answer (now (reply .entry)) (now (handed .entry))) (now (out .entry)) (now (out .exit)) r ⌝ }
 {
     match answer {
         ReceiveAnswer::Refused(number) => put_named(out, at, b"receive refused ", number as u64),
@@ -59,8 +61,9 @@ pub fn put_received(
 }
 
 fn put_receipt(out: &mut [u8], at: usize, receipt: Receipt, reply: &[u8], handed: &[u8]) -> usize
-    requires { ⌜ at + (receiveRoom (now reply) (now handed)) ≤ length (now out) ⌝ }
-    ensures { λ r. ⌜ Puts (receiveRoom (now (reply .entry)) (now (handed .entry))) at (receiptText receipt (now (reply .entry)) (now (handed .entry))) (now (out .entry)) (now (out .exit)) r ⌝ }
+    requires { ⌜ at + receiveRoom (now reply) (now handed) ≤ length (now out) ⌝ }
+    ensures { λ r. ⌜ Puts (receiveRoom (now (reply .entry)) (now (handed .entry))) at
+        (receiptText receipt (now (reply .entry)) (now (handed .entry))) (now (out .entry)) (now (out .exit)) r ⌝ }
 {
     let item = receipt.item;
     let word = receipt.word;
@@ -73,8 +76,8 @@ fn put_receipt(out: &mut [u8], at: usize, receipt: Receipt, reply: &[u8], handed
 }
 
 fn put_judged(out: &mut [u8], at: usize, item: Answer, word: Word) -> usize
-    requires { ⌜ at + 236 ≤ length (now out) ⌝ }
-    ensures { λ r. ⌜ Puts 236 at (judgedText item word) (now (out .entry)) (now (out .exit)) r ⌝ }
+    requires { ⌜ at + judgedRoom ≤ length (now out) ⌝ }
+    ensures { λ r. ⌜ Puts judgedRoom at (judgedText item word) (now (out .entry)) (now (out .exit)) r ⌝ }
 {
     let end = put(out, at, b"received ");
     let end = put_item(out, end, item);
@@ -83,8 +86,9 @@ fn put_judged(out: &mut [u8], at: usize, item: Answer, word: Word) -> usize
 
 // Poll, with the frame that is to be shown.
 pub fn put_polled(out: &mut [u8], at: usize, answer: PollAnswer, frame: &[u8]) -> usize
-    requires { ⌜ at + (pollRoom (now frame)) ≤ length (now out) ⌝ }
-    ensures { λ r. ⌜ Puts (pollRoom (now (frame .entry))) at (pollText answer (now (frame .entry))) (now (out .entry)) (now (out .exit)) r ⌝ }
+    requires { ⌜ at + pollRoom (now frame) ≤ length (now out) ⌝ }
+    ensures { λ r. ⌜ Puts (pollRoom (now (frame .entry))) at
+        (pollText answer (now (frame .entry))) (now (out .entry)) (now (out .exit)) r ⌝ }
 {
     match answer {
         PollAnswer::Refused(number) => put_named(out, at, b"poll refused ", number as u64),

@@ -1,8 +1,11 @@
 // The parts of an answer as text, each put behind the first `at` bytes of a lent buffer. Each answers where it ends.
 ghost use Prim.Native.Nat.{_+_, _≤_};
 ghost use lib.ListN.{length};
-ghost use Rattle.transcript.specs.Text.{digitsMax, pairsRoom, Puts};
-ghost use Rattle.transcript.specs.Lines.{oneText, itemText, addressText, fieldsText, commandText, wordText, lentText, causeText, endingText, endedText};
+ghost use Rattle.transcript.specs.Text.{Puts};
+ghost use Rattle.transcript.specs.Lines.{oneText, itemText, addressText, fieldsText, commandText, wordText, lentText};
+ghost use Rattle.transcript.specs.Lines.{causeText, endingText, endedText};
+ghost use Rattle.transcript.specs.Lines.{itemRoom, addressRoom, fieldsRoom, commandRoom, wordRoom, lentRoom};
+ghost use Rattle.transcript.specs.Lines.{causeRoom, endingRoom, endedRoom};
 use crate::text::put;
 use crate::text::put_bytes;
 use crate::text::put_named;
@@ -18,8 +21,8 @@ use message::reader::Item;
 
 // The item, or `more`.
 pub(crate) fn put_item(out: &mut [u8], at: usize, answer: Answer) -> usize
-    requires { ⌜ at + 70 ≤ length (now out) ⌝ }
-    ensures { λ r. ⌜ Puts 70 at (itemText answer) (now (out .entry)) (now (out .exit)) r ⌝ }
+    requires { ⌜ at + itemRoom ≤ length (now out) ⌝ }
+    ensures { λ r. ⌜ Puts itemRoom at (itemText answer) (now (out .entry)) (now (out .exit)) r ⌝ }
 {
     match answer {
         Answer::More => put(out, at, b"more"),
@@ -28,8 +31,8 @@ pub(crate) fn put_item(out: &mut [u8], at: usize, answer: Answer) -> usize
 }
 
 fn put_one(out: &mut [u8], at: usize, item: Item) -> usize
-    requires { ⌜ at + 70 ≤ length (now out) ⌝ }
-    ensures { λ r. ⌜ Puts 70 at (oneText item) (now (out .entry)) (now (out .exit)) r ⌝ }
+    requires { ⌜ at + itemRoom ≤ length (now out) ⌝ }
+    ensures { λ r. ⌜ Puts itemRoom at (oneText item) (now (out .entry)) (now (out .exit)) r ⌝ }
 {
     match item {
         Item::DamagedHeader => put(out, at, b"damaged-header"),
@@ -40,8 +43,8 @@ fn put_one(out: &mut [u8], at: usize, item: Item) -> usize
 }
 
 fn put_message(out: &mut [u8], at: usize, kind: u8, seq: Seq, len: usize) -> usize
-    requires { ⌜ at + 70 ≤ length (now out) ⌝ }
-    ensures { λ r. ⌜ Puts 70 at (oneText (Item.Message kind seq len)) (now (out .entry)) (now (out .exit)) r ⌝ }
+    requires { ⌜ at + itemRoom ≤ length (now out) ⌝ }
+    ensures { λ r. ⌜ Puts itemRoom at (oneText (Item.Message kind seq len)) (now (out .entry)) (now (out .exit)) r ⌝ }
 {
     let end = put_named(out, at, b"message ", kind as u64);
     let end = put_named(out, end, b" ", seq.0 as u64);
@@ -50,8 +53,8 @@ fn put_message(out: &mut [u8], at: usize, kind: u8, seq: Seq, len: usize) -> usi
 
 // The word that a message earned.
 pub(crate) fn put_word(out: &mut [u8], at: usize, word: Word) -> usize
-    requires { ⌜ at + 157 ≤ length (now out) ⌝ }
-    ensures { λ r. ⌜ Puts 157 at (wordText word) (now (out .entry)) (now (out .exit)) r ⌝ }
+    requires { ⌜ at + wordRoom ≤ length (now out) ⌝ }
+    ensures { λ r. ⌜ Puts wordRoom at (wordText word) (now (out .entry)) (now (out .exit)) r ⌝ }
 {
     match word {
         Word::Nothing => put(out, at, b" none"),
@@ -66,8 +69,9 @@ pub(crate) fn put_word(out: &mut [u8], at: usize, word: Word) -> usize
 
 // A command behind its word: TC, TID, SID, IID, CID, RQID and the length of its data.
 fn put_command(out: &mut [u8], at: usize, word: &[u8], it: Command) -> usize
-    requires { ⌜ at + (length (now word) + 147) ≤ length (now out) ⌝ }
-    ensures { λ r. ⌜ Puts (length (now (word .entry)) + 147) at (commandText (now (word .entry)) it) (now (out .entry)) (now (out .exit)) r ⌝ }
+    requires { ⌜ at + commandRoom (now word) ≤ length (now out) ⌝ }
+    ensures { λ r. ⌜ Puts (commandRoom (now (word .entry))) at
+        (commandText (now (word .entry)) it) (now (out .entry)) (now (out .exit)) r ⌝ }
 {
     let fields = it.fields;
     let id = it.id;
@@ -78,8 +82,8 @@ fn put_command(out: &mut [u8], at: usize, word: &[u8], it: Command) -> usize
 }
 
 fn put_fields(out: &mut [u8], at: usize, fields: Fields) -> usize
-    requires { ⌜ at + 105 ≤ length (now out) ⌝ }
-    ensures { λ r. ⌜ Puts 105 at (fieldsText fields) (now (out .entry)) (now (out .exit)) r ⌝ }
+    requires { ⌜ at + fieldsRoom ≤ length (now out) ⌝ }
+    ensures { λ r. ⌜ Puts fieldsRoom at (fieldsText fields) (now (out .entry)) (now (out .exit)) r ⌝ }
 {
     let end = put_address(out, at, fields);
     let end = put_named(out, end, b" ", fields.iid as u64);
@@ -87,8 +91,8 @@ fn put_fields(out: &mut [u8], at: usize, fields: Fields) -> usize
 }
 
 fn put_address(out: &mut [u8], at: usize, fields: Fields) -> usize
-    requires { ⌜ at + 63 ≤ length (now out) ⌝ }
-    ensures { λ r. ⌜ Puts 63 at (addressText fields) (now (out .entry)) (now (out .exit)) r ⌝ }
+    requires { ⌜ at + addressRoom ≤ length (now out) ⌝ }
+    ensures { λ r. ⌜ Puts addressRoom at (addressText fields) (now (out .entry)) (now (out .exit)) r ⌝ }
 {
     let end = put_named(out, at, b" ", fields.tc as u64);
     let end = put_named(out, end, b" ", fields.tid as u64);
@@ -97,8 +101,9 @@ fn put_address(out: &mut [u8], at: usize, fields: Fields) -> usize
 
 // A length and bytes behind a name.
 pub(crate) fn put_lent(out: &mut [u8], at: usize, name: &[u8], len: usize, shown: &[u8]) -> usize
-    requires { ⌜ at + (length (now name) + (22 + pairsRoom (now shown))) ≤ length (now out) ⌝ }
-    ensures { λ r. ⌜ Puts (length (now (name .entry)) + (22 + pairsRoom (now (shown .entry)))) at (lentText (now (name .entry)) len (now (shown .entry))) (now (out .entry)) (now (out .exit)) r ⌝ }
+    requires { ⌜ at + lentRoom (now name) (now shown) ≤ length (now out) ⌝ }
+    ensures { λ r. ⌜ Puts (lentRoom (now (name .entry)) (now (shown .entry))) at
+        (lentText (now (name .entry)) len (now (shown .entry))) (now (out .entry)) (now (out .exit)) r ⌝ }
 {
     let end = put_named(out, at, name, len as u64);
     let end = put(out, end, b" ");
@@ -107,8 +112,8 @@ pub(crate) fn put_lent(out: &mut [u8], at: usize, name: &[u8], len: usize, shown
 
 // The ending that a receive reports, if any.
 pub(crate) fn put_ended(out: &mut [u8], at: usize, ended: Ended) -> usize
-    requires { ⌜ at + 46 ≤ length (now out) ⌝ }
-    ensures { λ r. ⌜ Puts 46 at (endedText ended) (now (out .entry)) (now (out .exit)) r ⌝ }
+    requires { ⌜ at + endedRoom ≤ length (now out) ⌝ }
+    ensures { λ r. ⌜ Puts endedRoom at (endedText ended) (now (out .entry)) (now (out .exit)) r ⌝ }
 {
     match ended {
         Ended::Nobody => put(out, at, b" no-ending"),
@@ -121,8 +126,8 @@ pub(crate) fn put_ended(out: &mut [u8], at: usize, ended: Ended) -> usize
 
 // An ending: its request ID and its cause.
 pub(crate) fn put_ending(out: &mut [u8], at: usize, ending: Ending) -> usize
-    requires { ⌜ at + 45 ≤ length (now out) ⌝ }
-    ensures { λ r. ⌜ Puts 45 at (endingText ending) (now (out .entry)) (now (out .exit)) r ⌝ }
+    requires { ⌜ at + endingRoom ≤ length (now out) ⌝ }
+    ensures { λ r. ⌜ Puts endingRoom at (endingText ending) (now (out .entry)) (now (out .exit)) r ⌝ }
 {
     let id = ending.id;
     let cause = ending.cause;
@@ -131,8 +136,8 @@ pub(crate) fn put_ending(out: &mut [u8], at: usize, ending: Ending) -> usize
 }
 
 fn put_cause(out: &mut [u8], at: usize, cause: Cause) -> usize
-    requires { ⌜ at + 19 ≤ length (now out) ⌝ }
-    ensures { λ r. ⌜ Puts 19 at (causeText cause) (now (out .entry)) (now (out .exit)) r ⌝ }
+    requires { ⌜ at + causeRoom ≤ length (now out) ⌝ }
+    ensures { λ r. ⌜ Puts causeRoom at (causeText cause) (now (out .entry)) (now (out .exit)) r ⌝ }
 {
     match cause {
         Cause::Acknowledged => put(out, at, b" acknowledged"),

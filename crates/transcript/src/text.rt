@@ -28,7 +28,8 @@ pub(crate) fn put_number(out: &mut [u8], at: usize, n: u64) -> usize
 // A number behind a word.
 pub(crate) fn put_named(out: &mut [u8], at: usize, word: &[u8], n: u64) -> usize
     requires { ⌜ at + (length (now word) + digitsMax) ≤ length (now out) ⌝ }
-    ensures { λ r. ⌜ Puts (length (now (word .entry)) + digitsMax) at (named (now (word .entry)) n) (now (out .entry)) (now (out .exit)) r ⌝ }
+    ensures { λ r. ⌜ Puts (length (now (word .entry)) + digitsMax) at
+        (named (now (word .entry)) n) (now (out .entry)) (now (out .exit)) r ⌝ }
 {
     let end = put(out, at, word);
     put_number(out, end, n)
@@ -37,7 +38,8 @@ pub(crate) fn put_named(out: &mut [u8], at: usize, word: &[u8], n: u64) -> usize
 // Bytes as pairs of hexadecimal digits, `-` for none.
 pub(crate) fn put_bytes(out: &mut [u8], at: usize, shown: &[u8]) -> usize
     requires { ⌜ at + (1 + pairsRoom (now shown)) ≤ length (now out) ⌝ }
-    ensures { λ r. ⌜ Puts (1 + pairsRoom (now (shown .entry))) at (shownAs (now (shown .entry))) (now (out .entry)) (now (out .exit)) r ⌝ }
+    ensures { λ r. ⌜ Puts (1 + pairsRoom (now (shown .entry))) at
+        (shownAs (now (shown .entry))) (now (out .entry)) (now (out .exit)) r ⌝ }
 {
     if shown.len() == 0 {
         return put(out, at, b"-");
@@ -47,7 +49,8 @@ pub(crate) fn put_bytes(out: &mut [u8], at: usize, shown: &[u8]) -> usize
 
 fn put_pairs(out: &mut [u8], at: usize, shown: &[u8]) -> usize
     requires { ⌜ at + pairsRoom (now shown) ≤ length (now out) ⌝ }
-    ensures { λ r. ⌜ Puts (pairsRoom (now (shown .entry))) at (pairs (now (shown .entry))) (now (out .entry)) (now (out .exit)) r ⌝ }
+    ensures { λ r. ⌜ Puts (pairsRoom (now (shown .entry))) at
+        (pairs (now (shown .entry))) (now (out .entry)) (now (out .exit)) r ⌝ }
 {
     let mut end = at;
     let mut rest = shown;

@@ -14,9 +14,6 @@ returns c = search needs
 make-room-requires : tie.Need-make-room-requires
 make-room-requires c κs = search needs
 
-with-next-requires : tie.Need-with-next-requires
-with-next-requires c κs = search needs
-
 same-length : tie.Need-same-length
 same-length c = search needs
 
@@ -45,7 +42,6 @@ run-gathered-spec =
     enum-told
     returns
     make-room-requires
-    with-next-requires
     same-length
     returns-2
     slice-aggregate-run-line
