@@ -1,7 +1,7 @@
 -- The ledger that an endpoint and its store stand for (document 01, "The ledger").
 use Prim.Native.Nat.{ℕ, suc, _+_, _*_}
-use mathlib.Core.List.{List, [], _∷_, map}
-use lib.ListN.{length, take, drop}
+use mathlib.Core.List.{List, [], _∷_}
+use lib.ListN.{take, drop}
 use Rattle.line.specs.Receiving.{heldMax}
 use Rattle.command.specs.Payload.{maxData}
 use Rattle.command.specs.Promises.{fieldsOf}

@@ -1,5 +1,4 @@
 -- Document 01, "Malformed means one of": the rule for an endpoint, in its order. The tests of one request are the ledger's.
-use Prim.Native.Nat.{ℕ}
 use mathlib.Core.Bool.{Bool, false, _||_}
 use mathlib.Core.List.{List, [], _∷_, map}
 use lib.Dec.{ltb}
@@ -10,7 +9,6 @@ use Rattle.ledger.specs.Parts.{reservedMax, liveMax}
 use Rattle.ledger.specs.Refusals.{some-of, isOutside, twoEqual, flights, wronglyOften, waitsForNothing, isLate}
 use Rattle.endpoint.specs.Endpoint.{requestOf, rowsOf}
 use Rattle.endpoint.specs.declared.Request.{Request}
-use Rattle.endpoint.specs.declared.Requests.{Requests}
 use Rattle.endpoint.specs.declared.Endpoint.{Endpoint}
 
 -- the live requests without their data, which no other test looks at

@@ -49,7 +49,8 @@ pub bytes-step : (n h l : ℕ) (s all b : List ℕ) → n < length b → 2 ≤ l
     → (h < 16 → h ≡ hexValue (getD s 0 0)) → (l < 16 → l ≡ hexValue (getD s 1 0))
     → take n b ++ bytesOf s ≡ bytesOf all → take (n + 1) (set b n (h * 16 + l)) ++ bytesOf (lentFrom 2 s) ≡ bytesOf all
 bytes-step n h l s all b within some high low is and inv =
-    rw (add-one, take-suc-set b n (h * 16 + l) within, append-snoc (take n b) (h * 16 + l) (bytesOf (lentFrom 2 s)), is high, and low, ← bytes-next s some) inv
+    rw (add-one, take-suc-set b n (h * 16 + l) within, append-snoc (take n b) (h * 16 + l) (bytesOf (lentFrom 2 s)))
+    (rw (is high, and low, ← bytes-next s some) inv)
 
 -- no more pairs
 pub bytes-end : (s : List ℕ) → length s ≤ 0 → bytesOf s ≡ []

@@ -7,7 +7,8 @@ use Rattle.runner.proofs.gathering.run_all.Statement.{statement}
 use Rattle.runner.proofs.gathering.run_all.Tie as tie
 
 abbrev Inv-loop : tie.InvT-loop
-Inv-loop store₀ line₀ out₀ progress₀ turns₀ store line out progress turns = Holds progress line out × (length line ≡ length line₀) × (length out ≡ length out₀)
+Inv-loop store₀ line₀ out₀ progress₀ turns₀ store line out progress turns =
+    Holds progress line out × (length line ≡ length line₀) × (length out ≡ length out₀)
 
 abbrev μ-loop : tie.MeasureT-loop
 μ-loop store₀ line₀ out₀ progress₀ turns₀ store line out progress turns = turns

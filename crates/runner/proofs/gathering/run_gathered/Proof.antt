@@ -21,7 +21,9 @@ returns-2 : tie.Need-returns-2
 returns-2 c = search needs
 
 slice-aggregate-run-line : tie.Need-slice-aggregate-run-line
-slice-aggregate-run-line c = sym (length-take-le _ _ (c .before .before .before .before .before .before .before .before .before .before .before .pre .gathers))
+slice-aggregate-run-line c =
+    let pre = c .before .before .before .before .before .before .before .before .before .before .before .pre in
+    sym (length-take-le _ _ (pre .gathers))
 
 run-line-requires : tie.Need-run-line-requires
 run-line-requires c κs = search needs

@@ -9,7 +9,8 @@ use Rattle.runner.proofs.gathering.run_piece.Statement.{statement}
 use Rattle.runner.proofs.gathering.run_piece.Tie as tie
 
 abbrev Inv-loop : tie.InvT-loop
-Inv-loop store₀ line₀ out₀ piece progress₀ rest₀ store line out progress rest = Holds progress line out × (length line ≡ length line₀) × (length out ≡ length out₀)
+Inv-loop store₀ line₀ out₀ piece progress₀ rest₀ store line out progress rest =
+    Holds progress line out × (length line ≡ length line₀) × (length out ≡ length out₀)
 
 abbrev μ-loop : tie.MeasureT-loop
 μ-loop store₀ line₀ out₀ piece progress₀ rest₀ store line out progress rest = length rest
@@ -57,16 +58,26 @@ sub-rest : tie.Need-sub-rest Inv-loop μ-loop
 sub-rest c = omega (arith, c .after-end .ensures, c .before .before .before .before .before .before .before .before .before .if1 .left)
 
 part-rest-start : tie.Need-part-rest-start Inv-loop μ-loop
-part-rest-start c = omega (arith, c .after-end .ensures, c .before .before .before .before .before .before .before .before .before .if1 .left)
+part-rest-start c =
+    let if1 = c .before .before .before .before .before .before .before .before .before .if1 in
+    let after-end = c .after-end in
+    omega (arith, after-end .ensures, if1 .left)
 
 part-rest-end : tie.Need-part-rest-end Inv-loop μ-loop
 part-rest-end c = search needs
 
 loop-less : tie.Need-loop-less Inv-loop μ-loop
-loop-less c = simp (length-take, length-drop) (omega (arith, c .before .after-end .ensures, c .before .before .before .before .before .before .before .before .before .before .if1 .left))
+loop-less c =
+    let if1 = c .before .before .before .before .before .before .before .before .before .before .if1 in
+    let after-end = c .before .after-end in
+    simp (length-take, length-drop) (omega (arith, after-end .ensures, if1 .left))
 
 loop-again : tie.Need-loop-again Inv-loop μ-loop
-loop-again c = (c .before .before .before .before .before .before .run-gathered .ensures, omega (arith, c .before .before .before .before .before .before .before .before .before .before .before .before .before .before .before .before .before .loop .inv .1), omega (arith, c .before .before .before .before .before .before .before .before .before .before .before .before .before .before .before .before .before .loop .inv .2))
+loop-again c = (
+  c .before .before .before .before .before .before .run-gathered .ensures,
+  omega (arith, c .before .before .before .before .before .before .before .before .before .before .before .before .before .before .before .before .before .loop .inv .1),
+  omega (arith, c .before .before .before .before .before .before .before .before .before .before .before .before .before .before .before .before .before .loop .inv .2),
+)
 
 pub run-piece-spec : {M : Type 1} → statement M
 run-piece-spec =

@@ -21,7 +21,10 @@ shared-slice-read-if1 : tie.Need-shared-slice-read-if1 Inv-loop μ-loop
 shared-slice-read-if1 c = search needs
 
 returns : tie.Need-returns Inv-loop μ-loop
-returns c = sym (touched-here (c .before .before .before .loop .rest .now) (omega arith) (c .if1 .taken)) ∙ c .before .before .before .loop .inv
+returns c =
+    let loop = c .before .before .before .loop in
+    let if1 = c .if1 in
+    sym (touched-here (loop .rest .now) (omega arith) (if1 .taken)) ∙ loop .inv
 
 sub-rest : tie.Need-sub-rest Inv-loop μ-loop
 sub-rest c = search needs
@@ -36,7 +39,10 @@ loop-less : tie.Need-loop-less Inv-loop μ-loop
 loop-less c = simp (length-take, length-drop) (omega arith)
 
 loop-again : tie.Need-loop-again Inv-loop μ-loop
-loop-again c = sym (touched-next (c .before .before .before .before .loop .rest .now) (omega arith) (c .before .if1 .left)) ∙ c .before .before .before .before .loop .inv
+loop-again c =
+    let loop = c .before .before .before .before .loop in
+    let if1 = c .before .if1 in
+    sym (touched-next (loop .rest .now) (omega arith) (if1 .left)) ∙ loop .inv
 
 returns-2 : tie.Need-returns-2 Inv-loop μ-loop
 returns-2 c = sym (touched-end (c .before .loop .rest .now) (c .loop-test .left)) ∙ c .before .loop .inv

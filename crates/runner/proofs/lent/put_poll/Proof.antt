@@ -18,7 +18,11 @@ slice-aggregate-put-polled : tie.Need-slice-aggregate-put-polled
 slice-aggregate-put-polled c = sym (length-take-le _ _ (c .before .before .within .ensures .0))
 
 put-polled-requires : tie.Need-put-polled-requires
-put-polled-requires c κs = let s = part-short (c .before .before .within .result) (now (c .before .before .before .before .before .before .args .output)) (c .before .before .before .before .before .before .pre .1) in omega arith
+put-polled-requires c κs =
+    let args = c .before .before .before .before .before .before .args in
+    let pre = c .before .before .before .before .before .before .pre in
+    let short = part-short (c .before .before .within .result) (now (args .output)) (pre .1) in
+    omega arith
 
 sub-is-touched : tie.Need-sub-is-touched
 sub-is-touched c = search needs
@@ -33,18 +37,25 @@ is-touched-requires : tie.Need-is-touched-requires
 is-touched-requires c κs = search needs
 
 put-end-requires : tie.Need-put-end-requires
-put-end-requires c κs = let s = part-short (c .before .before .before .before .before .before .before .before .within .result) (now (c .before .before .before .before .before .before .before .before .before .before .before .before .args .output)) (c .before .before .before .before .before .before .before .before .before .before .before .before .pre .1) in omega (arith, c .before .before .before .before .before .put-polled .ensures .within)
+put-end-requires c κs =
+    let args = c .before .before .before .before .before .before .before .before .before .before .before .before .args in
+    let pre = c .before .before .before .before .before .before .before .before .before .before .before .before .pre in
+    let short = part-short (c .before .before .before .before .before .before .before .before .within .result) (now (args .output)) (pre .1) in
+    omega (arith, c .before .before .before .before .before .put-polled .ensures .within)
 
 same-length : tie.Need-same-length
 same-length c = search needs
 
 returns : tie.Need-returns
-returns c = let q = c .before .before .before .before .before .before .before .before .before .before .before .before .before .before .before .pre in
-    let a = c .before .before .before .before .before .before .before .before .before .before .before .before .before .before .before .args in
-    let i = c .before .before .before .before .before .before .before .before .before .before .before .before .frame-length in
-    let v = c .before .before .before .before .before .before .before .before .before .before .before .within in
-    poll-line (a .answer) (now (a .output)) (i .result) (v .result) _ (q .1) (i .ensures) (v .ensures .1) (v .ensures .2)
-    (c .before .before .before .is-touched .ensures) (c .before .before .before .before .before .before .before .before .put-polled .ensures) (c .before .before .put-end .ensures)
+returns c =
+    let args = c .before .before .before .before .before .before .before .before .before .before .before .before .before .before .before .args in
+    let pre = c .before .before .before .before .before .before .before .before .before .before .before .before .before .before .before .pre in
+    let length = c .before .before .before .before .before .before .before .before .before .before .before .before .frame-length in
+    let within = c .before .before .before .before .before .before .before .before .before .before .before .within in
+    let put-polled = c .before .before .before .before .before .before .before .before .put-polled in
+    poll-line (args .answer) (now (args .output)) (length .result) (within .result) _ (pre .1) (length .ensures)
+    (within .ensures .1) (within .ensures .2) (c .before .before .before .is-touched .ensures) (put-polled .ensures)
+    (c .before .before .put-end .ensures)
 
 pub put-poll-spec : {M : Type 1} → statement M
 put-poll-spec =

@@ -27,10 +27,11 @@ slice-aggregate-put-received-2 : tie.Need-slice-aggregate-put-received-2
 slice-aggregate-put-received-2 c = sym (length-take-le _ _ (c .before .before .before .within2 .ensures .0))
 
 put-received-requires : tie.Need-put-received-requires
-put-received-requires c κs = let q = c .before .before .before .before .before .before .before .before .before .before .pre in
-    let a = c .before .before .before .before .before .before .before .before .before .before .args in
-    let s = part-short (c .before .before .before .before .before .within .result) (now (a .reply)) (q .1) in
-    let t = part-short (c .before .before .before .within2 .result) (now (a .buffer)) (q .2) in
+put-received-requires c κs =
+    let args = c .before .before .before .before .before .before .before .before .before .before .args in
+    let pre = c .before .before .before .before .before .before .before .before .before .before .pre in
+    let short = part-short (c .before .before .before .before .before .within .result) (now (args .reply)) (pre .1) in
+    let brief = part-short (c .before .before .before .within2 .result) (now (args .buffer)) (pre .2) in
     omega arith
 
 sub-is-touched : tie.Need-sub-is-touched
@@ -46,24 +47,29 @@ is-touched-requires : tie.Need-is-touched-requires
 is-touched-requires c κs = search needs
 
 put-end-requires : tie.Need-put-end-requires
-put-end-requires c κs = let q = c .before .before .before .before .before .before .before .before .before .before .before .before .before .before .before .before .before .pre in
-    let a = c .before .before .before .before .before .before .before .before .before .before .before .before .before .before .before .before .before .args in
-    let s = part-short (c .before .before .before .before .before .before .before .before .before .before .before .before .within .result) (now (a .reply)) (q .1) in
-    let t = part-short (c .before .before .before .before .before .before .before .before .before .before .within2 .result) (now (a .buffer)) (q .2) in
+put-end-requires c κs =
+    let args = c .before .before .before .before .before .before .before .before .before .before .before .before .before .before .before .before .before .args in
+    let pre = c .before .before .before .before .before .before .before .before .before .before .before .before .before .before .before .before .before .pre in
+    let short = part-short (c .before .before .before .before .before .before .before .before .before .before .before .before .within .result) (now (args .reply)) (pre .1) in
+    let brief = part-short (c .before .before .before .before .before .before .before .before .before .before .within2 .result) (now (args .buffer)) (pre .2) in
     omega (arith, c .before .before .before .before .before .before .put-received .ensures .within)
 
 same-length : tie.Need-same-length
 same-length c = search needs
 
 returns : tie.Need-returns
-returns c = let q = c .before .before .before .before .before .before .before .before .before .before .before .before .before .before .before .before .before .before .before .before .pre in
-    let a = c .before .before .before .before .before .before .before .before .before .before .before .before .before .before .before .before .before .before .before .before .args in
-    let i = c .before .before .before .before .before .before .before .before .before .before .before .before .before .before .before .before .reply-length in
-    let j = c .before .before .before .before .before .before .before .before .before .before .before .before .before .before .data-length in
-    let v = c .before .before .before .before .before .before .before .before .before .before .before .before .before .before .before .within in
-    let w = c .before .before .before .before .before .before .before .before .before .before .before .before .before .within2 in
-    receive-line (a .answer) (now (a .reply)) (now (a .buffer)) (i .result) (j .result) (v .result) (w .result) _ (q .1) (q .2) (i .ensures)
-    (j .ensures) (v .ensures .1) (v .ensures .2) (w .ensures .1) (w .ensures .2) (rw (sym (c .before .before .before .before .before .is-touched .ensures) ∙ c .before .before .before .before .if1 .taken)) (c .before .before .before .before .before .before .before .before .before .put-received .ensures) (c .before .before .put-end .ensures)
+returns c =
+    let args = c .before .before .before .before .before .before .before .before .before .before .before .before .before .before .before .before .before .before .before .before .args in
+    let pre = c .before .before .before .before .before .before .before .before .before .before .before .before .before .before .before .before .before .before .before .before .pre in
+    let reply = c .before .before .before .before .before .before .before .before .before .before .before .before .before .before .before .before .reply-length in
+    let within = c .before .before .before .before .before .before .before .before .before .before .before .before .before .before .before .within in
+    let handed = c .before .before .before .before .before .before .before .before .before .before .before .before .before .before .data-length in
+    let within2 = c .before .before .before .before .before .before .before .before .before .before .before .before .before .within2 in
+    let put-received = c .before .before .before .before .before .before .before .before .before .put-received in
+    let test = sym (c .before .before .before .before .before .is-touched .ensures) ∙ c .before .before .before .before .if1 .taken in
+    receive-line (args .answer) (now (args .reply)) (now (args .buffer)) (reply .result) (handed .result) (within .result)
+    (within2 .result) _ (pre .1) (pre .2) (reply .ensures) (handed .ensures) (within .ensures .1) (within .ensures .2)
+    (within2 .ensures .1) (within2 .ensures .2) (rw test) (put-received .ensures) (c .before .before .put-end .ensures)
 
 sub-is-touched-2 : tie.Need-sub-is-touched-2
 sub-is-touched-2 c = search needs
@@ -78,24 +84,29 @@ is-touched-requires-2 : tie.Need-is-touched-requires-2
 is-touched-requires-2 c κs = search needs
 
 put-end-requires-2 : tie.Need-put-end-requires-2
-put-end-requires-2 c κs = let q = c .before .before .before .before .before .before .before .before .before .before .before .before .before .before .before .before .before .before .before .pre in
-    let a = c .before .before .before .before .before .before .before .before .before .before .before .before .before .before .before .before .before .before .before .args in
-    let s = part-short (c .before .before .before .before .before .before .before .before .before .before .before .before .before .before .within .result) (now (a .reply)) (q .1) in
-    let t = part-short (c .before .before .before .before .before .before .before .before .before .before .before .before .within2 .result) (now (a .buffer)) (q .2) in
+put-end-requires-2 c κs =
+    let args = c .before .before .before .before .before .before .before .before .before .before .before .before .before .before .before .before .before .before .before .args in
+    let pre = c .before .before .before .before .before .before .before .before .before .before .before .before .before .before .before .before .before .before .before .pre in
+    let short = part-short (c .before .before .before .before .before .before .before .before .before .before .before .before .before .before .within .result) (now (args .reply)) (pre .1) in
+    let brief = part-short (c .before .before .before .before .before .before .before .before .before .before .before .before .within2 .result) (now (args .buffer)) (pre .2) in
     omega (arith, c .before .before .before .before .before .before .before .before .put-received .ensures .within)
 
 same-length-2 : tie.Need-same-length-2
 same-length-2 c = search needs
 
 returns-2 : tie.Need-returns-2
-returns-2 c = let q = c .before .before .before .before .before .before .before .before .before .before .before .before .before .before .before .before .before .before .before .before .before .before .pre in
-    let a = c .before .before .before .before .before .before .before .before .before .before .before .before .before .before .before .before .before .before .before .before .before .before .args in
-    let i = c .before .before .before .before .before .before .before .before .before .before .before .before .before .before .before .before .before .before .reply-length in
-    let j = c .before .before .before .before .before .before .before .before .before .before .before .before .before .before .before .before .data-length in
-    let v = c .before .before .before .before .before .before .before .before .before .before .before .before .before .before .before .before .before .within in
-    let w = c .before .before .before .before .before .before .before .before .before .before .before .before .before .before .before .within2 in
-    receive-line (a .answer) (now (a .reply)) (now (a .buffer)) (i .result) (j .result) (v .result) (w .result) _ (q .1) (q .2) (i .ensures)
-    (j .ensures) (v .ensures .1) (v .ensures .2) (w .ensures .1) (w .ensures .2) (rw (sym (c .before .before .before .before .before .before .before .is-touched .ensures) ∙ c .before .before .before .before .before .before .if1 .left) (c .before .before .before .is-touched2 .ensures)) (c .before .before .before .before .before .before .before .before .before .before .before .put-received .ensures) (c .before .before .put-end2 .ensures)
+returns-2 c =
+    let args = c .before .before .before .before .before .before .before .before .before .before .before .before .before .before .before .before .before .before .before .before .before .before .args in
+    let pre = c .before .before .before .before .before .before .before .before .before .before .before .before .before .before .before .before .before .before .before .before .before .before .pre in
+    let reply = c .before .before .before .before .before .before .before .before .before .before .before .before .before .before .before .before .before .before .reply-length in
+    let within = c .before .before .before .before .before .before .before .before .before .before .before .before .before .before .before .before .before .within in
+    let handed = c .before .before .before .before .before .before .before .before .before .before .before .before .before .before .before .before .data-length in
+    let within2 = c .before .before .before .before .before .before .before .before .before .before .before .before .before .before .before .within2 in
+    let put-received = c .before .before .before .before .before .before .before .before .before .before .before .put-received in
+    let test = sym (c .before .before .before .before .before .before .before .is-touched .ensures) ∙ c .before .before .before .before .before .before .if1 .left in
+    receive-line (args .answer) (now (args .reply)) (now (args .buffer)) (reply .result) (handed .result) (within .result)
+    (within2 .result) _ (pre .1) (pre .2) (reply .ensures) (handed .ensures) (within .ensures .1) (within .ensures .2)
+    (within2 .ensures .1) (within2 .ensures .2) (rw test (c .before .before .before .is-touched2 .ensures)) (put-received .ensures) (c .before .before .put-end2 .ensures)
 
 pub put-receive-spec : {M : Type 1} → statement M
 put-receive-spec =

@@ -10,7 +10,9 @@ use Rattle.runner.proofs.lent.within.Tie as tie
 
 returns : tie.Need-returns
 returns c = let l = now (c .before .args .buffer) in
-    (omega arith, take-length l ∙ sym (take-all (c .before .args .len) l (omega arith)), drop-length l ∙ sym (drop-of-length-le l {i = c .before .args .len} (omega arith)))
+    let len = c .before .args .len in
+    let all = take-length l ∙ sym (take-all len l (omega arith)) in
+    (omega arith, all, drop-length l ∙ sym (drop-of-length-le l {i = len} (omega arith)))
 
 returns-2 : tie.Need-returns-2
 returns-2 c = search needs

@@ -23,7 +23,11 @@ same-length-3 : tie.Need-same-length-3
 same-length-3 c = search needs
 
 returns : tie.Need-returns
-returns c = omega (arith, c .after-call .ensures, c .before .before .before .put-receive .ensures .within, c .before .before .before .before .before .before .before .before .before .before .before .before .before .before .before .before .before .before .before .before .pre .0)
+returns c =
+    let pre = c .before .before .before .before .before .before .before .before .before .before .before .before .before .before .before .before .before .before .before .before .pre in
+    let put-receive = c .before .before .before .put-receive in
+    let after-call = c .after-call in
+    omega (arith, after-call .ensures, put-receive .ensures .within, pre .0)
 
 pub receive-with-spec : {M : Type 1} → statement M
 receive-with-spec =

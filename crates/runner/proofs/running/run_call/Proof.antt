@@ -34,7 +34,10 @@ enum-known-call-2 : tie.Need-enum-known-call-2
 enum-known-call-2 c = search needs
 
 slice-aggregate-run-submit : tie.Need-slice-aggregate-run-submit
-slice-aggregate-run-submit c = sym (length-take-le _ _ (rw (c .before .before .before .call2 .given .1) at (c .before .before .before .before .before .before .before .before .before .before .before .pre .1)))
+slice-aggregate-run-submit c =
+    let pre = c .before .before .before .before .before .before .before .before .before .before .before .pre in
+    let call2 = c .before .before .before .call2 in
+    sym (length-take-le _ _ (rw (call2 .given .1) at (pre .1)))
 
 run-submit-requires : tie.Need-run-submit-requires
 run-submit-requires c κs = search needs
@@ -43,16 +46,25 @@ enum-known-call-3 : tie.Need-enum-known-call-3
 enum-known-call-3 c = search needs
 
 slice-aggregate-run-receive : tie.Need-slice-aggregate-run-receive
-slice-aggregate-run-receive c = let w = rw (c .before .before .before .call3 .given .1) at (c .before .before .before .before .before .before .before .before .before .before .before .pre .1) in sym (length-take-le _ _ (w .2))
+slice-aggregate-run-receive c =
+    let pre = c .before .before .before .before .before .before .before .before .before .before .before .pre in
+    let within = rw (c .before .before .before .call3 .given .1) at (pre .1) in
+    sym (length-take-le _ _ (within .2))
 
 run-receive-requires : tie.Need-run-receive-requires
-run-receive-requires c κs = let w = rw (c .before .before .before .before .call3 .given .1) at (c .before .before .before .before .before .before .before .before .before .before .before .before .pre .1) in (omega arith, w .0, w .1)
+run-receive-requires c κs =
+    let pre = c .before .before .before .before .before .before .before .before .before .before .before .before .pre in
+    let within = rw (c .before .before .before .before .call3 .given .1) at (pre .1) in
+    (omega arith, within .0, within .1)
 
 enum-known-call-4 : tie.Need-enum-known-call-4
 enum-known-call-4 c = search needs
 
 run-poll-requires : tie.Need-run-poll-requires
-run-poll-requires c κs = (omega arith, rw (c .before .before .before .call4 .given .1) at (c .before .before .before .before .before .before .before .before .before .before .before .pre .1))
+run-poll-requires c κs =
+    let pre = c .before .before .before .before .before .before .before .before .before .before .before .pre in
+    let call4 = c .before .before .before .call4 in
+    (omega arith, rw (call4 .given .1) at (pre .1))
 
 enum-told-3 : tie.Need-enum-told-3
 enum-told-3 c = search needs

@@ -14,7 +14,10 @@ array-borrow-prefix-space : tie.Need-array-borrow-prefix-space
 array-borrow-prefix-space c = search needs
 
 slice-aggregate-poll-with : tie.Need-slice-aggregate-poll-with
-slice-aggregate-poll-with c = sym (length-take-le _ _ (omega (arith, c .before .before .filled .ensures, c .before .before .before .before .pre .1)))
+slice-aggregate-poll-with c =
+    let pre = c .before .before .before .before .pre in
+    let filled = c .before .before .filled in
+    sym (length-take-le _ _ (omega (arith, filled .ensures, pre .1)))
 
 poll-with-requires : tie.Need-poll-with-requires
 poll-with-requires c κs = (omega arith, simp length-take (omega (arith, c .before .before .before .before .before .pre .1)))

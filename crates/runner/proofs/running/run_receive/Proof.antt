@@ -17,16 +17,24 @@ array-borrow-prefix-first : tie.Need-array-borrow-prefix-first
 array-borrow-prefix-first c = search needs
 
 slice-aggregate-receive-with : tie.Need-slice-aggregate-receive-with
-slice-aggregate-receive-with c = sym (length-take-le _ _ (omega (arith, c .before .before .before .filled .ensures, c .before .before .before .before .before .before .pre .1)))
+slice-aggregate-receive-with c =
+    let pre = c .before .before .before .before .before .before .pre in
+    let filled = c .before .before .before .filled in
+    sym (length-take-le _ _ (omega (arith, filled .ensures, pre .1)))
 
 array-borrow-prefix-second : tie.Need-array-borrow-prefix-second
 array-borrow-prefix-second c = search needs
 
 slice-aggregate-receive-with-2 : tie.Need-slice-aggregate-receive-with-2
-slice-aggregate-receive-with-2 c = sym (length-take-le _ _ (omega (arith, c .before .before .before .filled2 .ensures, c .before .before .before .before .before .before .before .pre .2)))
+slice-aggregate-receive-with-2 c =
+    let pre = c .before .before .before .before .before .before .before .pre in
+    let filled2 = c .before .before .before .filled2 in
+    sym (length-take-le _ _ (omega (arith, filled2 .ensures, pre .2)))
 
 receive-with-requires : tie.Need-receive-with-requires
-receive-with-requires c κs = (omega arith, simp length-take (omega (arith, c .before .before .before .before .before .before .before .before .pre .1)), simp length-take (omega (arith, c .before .before .before .before .before .before .before .before .pre .2)))
+receive-with-requires c κs =
+    let pre = c .before .before .before .before .before .before .before .before .pre in
+    (omega arith, simp length-take (omega (arith, pre .1)), simp length-take (omega (arith, pre .2)))
 
 same-length : tie.Need-same-length
 same-length c = search needs

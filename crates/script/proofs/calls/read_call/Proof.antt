@@ -51,7 +51,9 @@ returns-4 : tie.Need-returns-4
 returns-4 c = search needs
 
 slice-aggregate-same-5 : tie.Need-slice-aggregate-same-5
-slice-aggregate-same-5 c = sym (length-take-le _ _ (c .before .before .before .before .before .before .before .before .before .first-end .ensures))
+slice-aggregate-same-5 c =
+    let first-end = c .before .before .before .before .before .before .before .before .before .first-end in
+    sym (length-take-le _ _ (first-end .ensures))
 
 slice-aggregate-same-6 : tie.Need-slice-aggregate-same-6
 slice-aggregate-same-6 c = search needs
@@ -69,7 +71,9 @@ returns-5 : tie.Need-returns-5
 returns-5 c = search needs
 
 slice-aggregate-same-7 : tie.Need-slice-aggregate-same-7
-slice-aggregate-same-7 c = sym (length-take-le _ _ (c .before .before .before .before .before .before .before .before .before .before .before .before .before .first-end .ensures))
+slice-aggregate-same-7 c =
+    let first-end = c .before .before .before .before .before .before .before .before .before .before .before .before .before .first-end in
+    sym (length-take-le _ _ (first-end .ensures))
 
 slice-aggregate-same-8 : tie.Need-slice-aggregate-same-8
 slice-aggregate-same-8 c = search needs

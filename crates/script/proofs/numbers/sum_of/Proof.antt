@@ -69,7 +69,10 @@ loop-less : tie.Need-loop-less Inv-loop μ-loop
 loop-less c = simp (length-take, length-drop) (omega arith)
 
 loop-again : tie.Need-loop-again Inv-loop μ-loop
-loop-again c = (omega arith, value-step _ _ _ _ (omega arith) (omega arith) (c .before .before .before .before .digit-of .ensures .1) (c .before .before .before .before .before .before .before .loop .inv .1))
+loop-again c =
+    let loop = c .before .before .before .before .before .before .before .loop in
+    let digit-of = c .before .before .before .before .digit-of in
+    (omega arith, value-step _ _ _ _ (omega arith) (omega arith) (digit-of .ensures .1) (loop .inv .1))
 
 returns-4 : tie.Need-returns-4 Inv-loop μ-loop
 returns-4 c = (omega arith, λ h. sym (value-end _ _ (c .loop-test .left)) ∙ c .before .loop .inv .1)

@@ -11,7 +11,8 @@ use Rattle.script.proofs.pairs.decode.Statement.{statement}
 use Rattle.script.proofs.pairs.decode.Tie as tie
 
 abbrev Inv-loop : tie.InvT-loop
-Inv-loop digits bytes₀ count₀ rest₀ bytes count rest = (count ≤ length bytes) × (length bytes ≡ length bytes₀) × (take count bytes ++ bytesOf rest ≡ bytesOf digits)
+Inv-loop digits bytes₀ count₀ rest₀ bytes count rest =
+    (count ≤ length bytes) × (length bytes ≡ length bytes₀) × (take count bytes ++ bytesOf rest ≡ bytesOf digits)
 
 abbrev μ-loop : tie.MeasureT-loop
 μ-loop digits bytes₀ count₀ rest₀ bytes count rest = length rest
@@ -98,13 +99,22 @@ loop-less : tie.Need-loop-less Inv-loop μ-loop
 loop-less c = simp (length-take, length-drop) (omega arith)
 
 loop-again : tie.Need-loop-again Inv-loop μ-loop
-loop-again c = (simp length-set (omega arith), simp length-set (c .before .before .before .before .before .before .before .before .before .before .loop .inv .1), bytes-step (c .before .before .before .before .before .before .before .before .before .before .loop .count) _ _ (c .before .before .before .before .before .before .before .before .before .before .loop .rest .now) _ (c .before .before .before .before .before .before .before .before .before .before .loop .bytes) (omega arith) (omega arith) (omega arith) (omega arith) (c .before .before .before .before .before .before .digit-of .ensures .1) (c .before .before .before .before .digit-of2 .ensures .1) (c .before .before .before .before .before .before .before .before .before .before .loop .inv .2))
+loop-again c =
+    let loop = c .before .before .before .before .before .before .before .before .before .before .loop in
+    let digit-of = c .before .before .before .before .before .before .digit-of in
+    let digit-of2 = c .before .before .before .before .digit-of2 in
+    let step =
+    bytes-step (loop .count) _ _ (loop .rest .now) _ (loop .bytes) (omega arith) (omega arith) (omega arith) (omega arith)
+    (digit-of .ensures .1) (digit-of2 .ensures .1) (loop .inv .2) in
+    (simp length-set (omega arith), simp length-set (loop .inv .1), step)
 
 same-length-5 : tie.Need-same-length-5 Inv-loop μ-loop
 same-length-5 c = search needs
 
 returns-6 : tie.Need-returns-6 Inv-loop μ-loop
-returns-6 c = (omega arith, λ h. rw (bytes-end _ (c .loop-test .left), append-nil) at (c .before .loop .inv .2))
+returns-6 c =
+    let loop = c .before .loop in
+    (omega arith, λ h. rw (bytes-end (loop .rest .now) (c .loop-test .left), append-nil) at (loop .inv .2))
 
 pub decode-spec : {M : Type 1} → statement M
 decode-spec =

@@ -22,7 +22,11 @@ same-length c = search needs
 
 returns : tie.Need-returns
 unfolding judgedText
-returns c = behind (c .before .before .before .before .before .before .before .before .before .before .put .ensures) (behind (c .before .before .before .before .before .before .put-item .ensures) (c .before .before .put-word .ensures))
+returns c =
+    let put = c .before .before .before .before .before .before .before .before .before .before .put in
+    let put-item = c .before .before .before .before .before .before .put-item in
+    let put-word = c .before .before .put-word in
+    behind (put .ensures) (behind (put-item .ensures) (put-word .ensures))
 
 pub put-judged-spec : {M : Type 1} → statement M
 put-judged-spec =

@@ -32,14 +32,20 @@ same-length c = search needs
 
 returns : tie.Need-returns
 unfolding openText
-returns c = rw (c .before .before .before .before .before .before .answer .given .1) (wider (omega arith) (c .before .before .put-named .ensures))
+returns c =
+    let answer = c .before .before .before .before .before .before .answer in
+    let put-named = c .before .before .put-named in
+    rw (answer .given .1) (wider (omega arith) (put-named .ensures))
 
 same-length-2 : tie.Need-same-length-2
 same-length-2 c = search needs
 
 returns-2 : tie.Need-returns-2
 unfolding openText
-returns-2 c = rw (c .before .before .before .before .before .enum-told .given .1) (wider (omega arith) (c .before .before .put .ensures))
+returns-2 c =
+    let enum-told = c .before .before .before .before .before .enum-told in
+    let put = c .before .before .put in
+    rw (enum-told .given .1) (wider (omega arith) (put .ensures))
 
 pub put-opened-spec : {M : Type 1} → statement M
 put-opened-spec =

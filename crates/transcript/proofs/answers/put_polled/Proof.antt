@@ -56,35 +56,50 @@ same-length c = search needs
 
 returns : tie.Need-returns
 unfolding pollText
-returns c = rw (c .before .before .before .before .before .before .answer .given .1) (wider (omega arith) (c .before .before .put-named .ensures))
+returns c =
+    let answer = c .before .before .before .before .before .before .answer in
+    let put-named = c .before .before .put-named in
+    rw (answer .given .1) (wider (omega arith) (put-named .ensures))
 
 same-length-2 : tie.Need-same-length-2
 same-length-2 c = search needs
 
 returns-2 : tie.Need-returns-2
 unfolding pollText
-returns-2 c = rw (c .before .before .before .before .before .before .answer2 .given .1) (wider (omega arith) (c .before .before .put-lent .ensures))
+returns-2 c =
+    let answer2 = c .before .before .before .before .before .before .answer2 in
+    let put-lent = c .before .before .put-lent in
+    rw (answer2 .given .1) (wider (omega arith) (put-lent .ensures))
 
 same-length-3 : tie.Need-same-length-3
 same-length-3 c = search needs
 
 returns-3 : tie.Need-returns-3
 unfolding pollText
-returns-3 c = rw (c .before .before .before .before .before .answer3 .given .1) (wider (omega arith) (c .before .before .put-ending .ensures))
+returns-3 c =
+    let answer3 = c .before .before .before .before .before .answer3 in
+    let put-ending = c .before .before .put-ending in
+    rw (answer3 .given .1) (wider (omega arith) (put-ending .ensures))
 
 same-length-4 : tie.Need-same-length-4
 same-length-4 c = search needs
 
 returns-4 : tie.Need-returns-4
 unfolding pollText
-returns-4 c = rw (c .before .before .before .before .before .before .answer4 .given .1) (wider (omega arith) (c .before .before .put-named2 .ensures))
+returns-4 c =
+    let answer4 = c .before .before .before .before .before .before .answer4 in
+    let put-named2 = c .before .before .put-named2 in
+    rw (answer4 .given .1) (wider (omega arith) (put-named2 .ensures))
 
 same-length-5 : tie.Need-same-length-5
 same-length-5 c = search needs
 
 returns-5 : tie.Need-returns-5
 unfolding pollText
-returns-5 c = rw (c .before .before .before .before .before .enum-told .given .1) (wider (omega arith) (c .before .before .put .ensures))
+returns-5 c =
+    let enum-told = c .before .before .before .before .before .enum-told in
+    let put = c .before .before .put in
+    rw (enum-told .given .1) (wider (omega arith) (put .ensures))
 
 pub put-polled-spec : {M : Type 1} → statement M
 put-polled-spec =

@@ -35,7 +35,15 @@ same-length c = search needs
 
 returns : tie.Need-returns
 unfolding receiptText
-returns c = wider (omega arith) (behind (c .before .before .before .before .before .before .before .before .before .before .before .before .before .before .before .before .before .before .before .before .before .put-judged .ensures) (behind (c .before .before .before .before .before .before .before .before .before .before .before .before .before .before .before .before .put-named .ensures) (behind (c .before .before .before .before .before .before .before .before .before .before .before .put-lent .ensures) (behind (c .before .before .before .before .before .before .put-lent2 .ensures) (c .before .before .put-ended .ensures)))))
+returns c =
+    let put-judged = c .before .before .before .before .before .before .before .before .before .before .before .before .before .before .before .before .before .before .before .before .before .put-judged in
+    let put-named = c .before .before .before .before .before .before .before .before .before .before .before .before .before .before .before .before .put-named in
+    let put-lent = c .before .before .before .before .before .before .before .before .before .before .before .put-lent in
+    let put-lent2 = c .before .before .before .before .before .before .put-lent2 in
+    let put-ended = c .before .before .put-ended in
+    wider (omega arith)
+    (behind (put-judged .ensures)
+    (behind (put-named .ensures) (behind (put-lent .ensures) (behind (put-lent2 .ensures) (put-ended .ensures)))))
 
 pub put-receipt-spec : {M : Type 1} → statement M
 put-receipt-spec =

@@ -29,14 +29,20 @@ same-length c = search needs
 
 returns : tie.Need-returns
 unfolding receiveText
-returns c = rw (c .before .before .before .before .before .before .answer .given .1) (wider (omega arith) (c .before .before .put-named .ensures))
+returns c =
+    let answer = c .before .before .before .before .before .before .answer in
+    let put-named = c .before .before .put-named in
+    rw (answer .given .1) (wider (omega arith) (put-named .ensures))
 
 same-length-2 : tie.Need-same-length-2
 same-length-2 c = search needs
 
 returns-2 : tie.Need-returns-2
 unfolding receiveText
-returns-2 c = rw (c .before .before .before .before .before .answer2 .given .1) (wider (omega arith) (c .before .before .put-receipt .ensures))
+returns-2 c =
+    let answer2 = c .before .before .before .before .before .answer2 in
+    let put-receipt = c .before .before .put-receipt in
+    rw (answer2 .given .1) (wider (omega arith) (put-receipt .ensures))
 
 pub put-received-spec : {M : Type 1} → statement M
 put-received-spec =

@@ -35,14 +35,20 @@ same-length c = search needs
 
 returns : tie.Need-returns
 unfolding submitText
-returns c = rw (c .before .before .before .before .before .before .answer .given .1) (wider (omega arith) (c .before .before .put-named .ensures))
+returns c =
+    let answer = c .before .before .before .before .before .before .answer in
+    let put-named = c .before .before .put-named in
+    rw (answer .given .1) (wider (omega arith) (put-named .ensures))
 
 same-length-2 : tie.Need-same-length-2
 same-length-2 c = search needs
 
 returns-2 : tie.Need-returns-2
 unfolding submitText
-returns-2 c = rw (c .before .before .before .before .before .before .before .answer2 .given .1) (wider (omega arith) (c .before .before .put-named2 .ensures))
+returns-2 c =
+    let answer2 = c .before .before .before .before .before .before .before .answer2 in
+    let put-named2 = c .before .before .put-named2 in
+    rw (answer2 .given .1) (wider (omega arith) (put-named2 .ensures))
 
 pub put-submitted-spec : {M : Type 1} → statement M
 put-submitted-spec =

@@ -32,7 +32,12 @@ same-length c = search needs
 
 returns : tie.Need-returns
 unfolding commandText
-returns c = wider (omega arith) (behind (c .before .before .before .before .before .before .before .before .before .before .before .before .before .before .before .before .before .put .ensures) (behind (c .before .before .before .before .before .before .before .before .before .before .before .before .before .put-fields .ensures) (behind (c .before .before .before .before .before .before .before .put-named .ensures) (c .before .before .put-named2 .ensures))))
+returns c =
+    let put = c .before .before .before .before .before .before .before .before .before .before .before .before .before .before .before .before .before .put in
+    let put-fields = c .before .before .before .before .before .before .before .before .before .before .before .before .before .put-fields in
+    let put-named = c .before .before .before .before .before .before .before .put-named in
+    let put-named2 = c .before .before .put-named2 in
+    wider (omega arith) (behind (put .ensures) (behind (put-fields .ensures) (behind (put-named .ensures) (put-named2 .ensures))))
 
 pub put-command-spec : {M : Type 1} → statement M
 put-command-spec =

@@ -39,7 +39,11 @@ same-length-2 c = search needs
 
 returns-2 : tie.Need-returns-2
 unfolding endedText
-returns-2 c = rw (c .before .before .before .before .before .before .before .before .before .before .ended .given .1) (behind (c .before .before .before .before .before .before .put2 .ensures) (c .before .before .put-ending .ensures))
+returns-2 c =
+    let ended = c .before .before .before .before .before .before .before .before .before .before .ended in
+    let put2 = c .before .before .before .before .before .before .put2 in
+    let put-ending = c .before .before .put-ending in
+    rw (ended .given .1) (behind (put2 .ensures) (put-ending .ensures))
 
 pub put-ended-spec : {M : Type 1} → statement M
 put-ended-spec =

@@ -31,7 +31,11 @@ same-length c = search needs
 
 returns : tie.Need-returns
 unfolding fieldsText
-returns c = behind (c .before .before .before .before .before .before .before .before .before .before .before .before .before .before .put-address .ensures) (behind (c .before .before .before .before .before .before .before .before .put-named .ensures) (c .before .before .put-named2 .ensures))
+returns c =
+    let put-address = c .before .before .before .before .before .before .before .before .before .before .before .before .before .before .put-address in
+    let put-named = c .before .before .before .before .before .before .before .before .put-named in
+    let put-named2 = c .before .before .put-named2 in
+    behind (put-address .ensures) (behind (put-named .ensures) (put-named2 .ensures))
 
 pub put-fields-spec : {M : Type 1} → statement M
 put-fields-spec =

@@ -33,7 +33,10 @@ same-length-2 c = search needs
 
 returns-2 : tie.Need-returns-2
 unfolding itemText
-returns-2 c = rw (c .before .before .before .before .before .answer .given .1) (wider (omega arith) (c .before .before .put-one .ensures))
+returns-2 c =
+    let answer = c .before .before .before .before .before .answer in
+    let put-one = c .before .before .put-one in
+    rw (answer .given .1) (wider (omega arith) (put-one .ensures))
 
 pub put-item-spec : {M : Type 1} → statement M
 put-item-spec =

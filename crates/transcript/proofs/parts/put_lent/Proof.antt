@@ -23,7 +23,11 @@ same-length c = search needs
 
 returns : tie.Need-returns
 unfolding lentText
-returns c = wider (omega arith) (behind (c .before .before .before .before .before .before .before .before .before .before .before .put-named .ensures) (behind (c .before .before .before .before .before .before .put .ensures) (c .before .before .put-bytes .ensures)))
+returns c =
+    let put-named = c .before .before .before .before .before .before .before .before .before .before .before .put-named in
+    let put = c .before .before .before .before .before .before .put in
+    let put-bytes = c .before .before .put-bytes in
+    wider (omega arith) (behind (put-named .ensures) (behind (put .ensures) (put-bytes .ensures)))
 
 pub put-lent-spec : {M : Type 1} → statement M
 put-lent-spec =

@@ -31,7 +31,11 @@ same-length c = search needs
 
 returns : tie.Need-returns
 unfolding oneText
-returns c = behind (c .before .before .before .before .before .before .before .before .before .before .before .before .before .put-named .ensures) (behind (c .before .before .before .before .before .before .before .put-named2 .ensures) (c .before .before .put-named3 .ensures))
+returns c =
+    let put-named = c .before .before .before .before .before .before .before .before .before .before .before .before .before .put-named in
+    let put-named2 = c .before .before .before .before .before .before .before .put-named2 in
+    let put-named3 = c .before .before .put-named3 in
+    behind (put-named .ensures) (behind (put-named2 .ensures) (put-named3 .ensures))
 
 pub put-message-spec : {M : Type 1} → statement M
 put-message-spec =

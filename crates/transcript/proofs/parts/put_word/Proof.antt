@@ -81,42 +81,60 @@ same-length-2 c = search needs
 
 returns-2 : tie.Need-returns-2
 unfolding wordText
-returns-2 c = rw (c .before .before .before .before .before .enum-told2 .given .1) (wider (omega arith) (c .before .before .put2 .ensures))
+returns-2 c =
+    let enum-told2 = c .before .before .before .before .before .enum-told2 in
+    let put2 = c .before .before .put2 in
+    rw (enum-told2 .given .1) (wider (omega arith) (put2 .ensures))
 
 same-length-3 : tie.Need-same-length-3
 same-length-3 c = search needs
 
 returns-3 : tie.Need-returns-3
 unfolding wordText
-returns-3 c = rw (c .before .before .before .before .before .enum-told3 .given .1) (wider (omega arith) (c .before .before .put3 .ensures))
+returns-3 c =
+    let enum-told3 = c .before .before .before .before .before .enum-told3 in
+    let put3 = c .before .before .put3 in
+    rw (enum-told3 .given .1) (wider (omega arith) (put3 .ensures))
 
 same-length-4 : tie.Need-same-length-4
 same-length-4 c = search needs
 
 returns-4 : tie.Need-returns-4
 unfolding wordText
-returns-4 c = rw (c .before .before .before .before .before .enum-told4 .given .1) (wider (omega arith) (c .before .before .put4 .ensures))
+returns-4 c =
+    let enum-told4 = c .before .before .before .before .before .enum-told4 in
+    let put4 = c .before .before .put4 in
+    rw (enum-told4 .given .1) (wider (omega arith) (put4 .ensures))
 
 same-length-5 : tie.Need-same-length-5
 same-length-5 c = search needs
 
 returns-5 : tie.Need-returns-5
 unfolding wordText
-returns-5 c = rw (c .before .before .before .before .before .before .word .given .1) (wider (omega arith) (c .before .before .put-command .ensures))
+returns-5 c =
+    let word = c .before .before .before .before .before .before .word in
+    let put-command = c .before .before .put-command in
+    rw (word .given .1) (wider (omega arith) (put-command .ensures))
 
 same-length-6 : tie.Need-same-length-6
 same-length-6 c = search needs
 
 returns-6 : tie.Need-returns-6
 unfolding wordText
-returns-6 c = rw (c .before .before .before .before .before .before .word2 .given .1) (wider (omega arith) (c .before .before .put-command2 .ensures))
+returns-6 c =
+    let word2 = c .before .before .before .before .before .before .word2 in
+    let put-command2 = c .before .before .put-command2 in
+    rw (word2 .given .1) (wider (omega arith) (put-command2 .ensures))
 
 same-length-7 : tie.Need-same-length-7
 same-length-7 c = search needs
 
 returns-7 : tie.Need-returns-7
 unfolding wordText
-returns-7 c = rw (c .before .before .before .before .before .before .word3 .given .1) (wider (omega arith) (c .before .before .put-command3 .ensures))
+returns-7 c =
+    let word3 = c .before .before .before .before .before .before .word3 in
+    let put-command3 = c .before .before .put-command3 in
+    rw (word3 .given .1) (wider (omega arith) (put-command3 .ensures))
 
 pub put-word-spec : {M : Type 1} → statement M
 put-word-spec =

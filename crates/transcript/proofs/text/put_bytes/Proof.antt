@@ -16,7 +16,11 @@ same-length : tie.Need-same-length
 same-length c = search needs
 
 returns : tie.Need-returns
-returns c = rw (shown-none (now (c .before .before .before .before .before .before .before .before .args .shown)) (c .before .before .before .before .before .if1 .taken)) (wider (omega arith) (c .before .before .put .ensures))
+returns c =
+    let args = c .before .before .before .before .before .before .before .before .args in
+    let if1 = c .before .before .before .before .before .if1 in
+    let put = c .before .before .put in
+    rw (shown-none (now (args .shown)) (if1 .taken)) (wider (omega arith) (put .ensures))
 
 put-pairs-requires : tie.Need-put-pairs-requires
 put-pairs-requires c κs = search needs
@@ -25,7 +29,11 @@ same-length-2 : tie.Need-same-length-2
 same-length-2 c = search needs
 
 returns-2 : tie.Need-returns-2
-returns-2 c = rw (shown-some (now (c .before .before .before .before .before .before .before .args .shown)) (c .before .before .before .before .if1 .left)) (wider (omega arith) (c .before .before .put-pairs .ensures))
+returns-2 c =
+    let args = c .before .before .before .before .before .before .before .args in
+    let if1 = c .before .before .before .before .if1 in
+    let put-pairs = c .before .before .put-pairs in
+    rw (shown-some (now (args .shown)) (if1 .left)) (wider (omega arith) (put-pairs .ensures))
 
 pub put-bytes-spec : {M : Type 1} → statement M
 put-bytes-spec =

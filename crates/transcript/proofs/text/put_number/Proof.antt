@@ -18,14 +18,20 @@ slice-aggregate-put : tie.Need-slice-aggregate-put
 slice-aggregate-put c = search needs
 
 put-requires : tie.Need-put-requires
-put-requires c κs = simp length-take (omega (arith, few-digits (c .before .before .decimal .result) (c .before .before .before .before .before .args .n) (c .before .before .decimal .ensures .1 .0) (omega arith)))
+put-requires c κs =
+    let args = c .before .before .before .before .before .args in
+    let decimal = c .before .before .decimal in
+    simp length-take (omega (arith, few-digits (decimal .result) (args .n) (decimal .ensures .1 .0) (omega arith)))
 
 same-length : tie.Need-same-length
 same-length c = search needs
 
 returns : tie.Need-returns
-returns c = let few = few-digits (c .before .before .before .before .before .decimal .result) (c .before .before .before .before .before .before .before .before .args .n) (c .before .before .before .before .before .decimal .ensures .1 .0) (omega arith) in
-    number-put (c .before .before .before .before .before .decimal .result) (c .before .before .before .before .before .before .before .before .args .n) _ few (c .before .before .before .before .before .decimal .ensures .1 .0) (c .before .before .before .before .before .decimal .ensures .1 .1) (c .before .before .put .ensures)
+returns c =
+    let n = c .before .before .before .before .before .before .before .before .args .n in
+    let decimal = c .before .before .before .before .before .decimal in
+    let few = few-digits (decimal .result) n (decimal .ensures .1 .0) (omega arith) in
+    number-put (decimal .result) n _ few (decimal .ensures .1 .0) (decimal .ensures .1 .1) (c .before .before .put .ensures)
 
 pub put-number-spec : {M : Type 1} → statement M
 put-number-spec =

@@ -26,7 +26,11 @@ same-length : tie.Need-same-length
 same-length c = search needs
 
 returns : tie.Need-returns
-returns c = rw (c .before .digit .ensures, c .digit2 .ensures) (pair-set (now (c .before .before .before .args .out)) (c .before .before .before .args .at) _ _ (omega arith))
+returns c =
+    let args = c .before .before .before .args in
+    let digit = c .before .digit in
+    let digit2 = c .digit2 in
+    rw (digit .ensures, digit2 .ensures) (pair-set (now (args .out)) (args .at) _ _ (omega arith))
 
 pub put-pair-spec : {M : Type 1} → statement M
 put-pair-spec =

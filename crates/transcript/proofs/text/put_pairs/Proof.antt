@@ -12,7 +12,8 @@ use Rattle.transcript.proofs.text.put_pairs.Statement.{statement}
 use Rattle.transcript.proofs.text.put_pairs.Tie as tie
 
 abbrev Inv-loop : tie.InvT-loop
-Inv-loop out₀ at shown end₀ rest₀ out end rest = (end + 2 * length rest ≡ at + 2 * length shown) × (length out ≡ length out₀) × (take end out ++ pairs rest ≡ take at out₀ ++ pairs shown)
+Inv-loop out₀ at shown end₀ rest₀ out end rest =
+    (end + 2 * length rest ≡ at + 2 * length shown) × (length out ≡ length out₀) × (take end out ++ pairs rest ≡ take at out₀ ++ pairs shown)
 
 abbrev μ-loop : tie.MeasureT-loop
 μ-loop out₀ at shown end₀ rest₀ out end rest = length rest
@@ -42,7 +43,14 @@ loop-less : tie.Need-loop-less Inv-loop μ-loop
 loop-less c = simp (length-take, length-drop) (omega arith)
 
 loop-again : tie.Need-loop-again Inv-loop μ-loop
-loop-again c = (simp (length-take, length-drop) (omega arith), omega arith, pairs-step (c .before .before .before .before .before .before .before .loop .end) (c .before .before .before .before .before .before .before .before .before .before .args .at) (c .before .before .before .before .before .before .before .loop .rest .now) (now (c .before .before .before .before .before .before .before .before .before .before .args .shown)) (now (c .before .before .before .before .before .before .before .before .before .before .args .out)) (c .before .before .before .before .before .before .before .loop .out) _ (omega arith) (c .before .before .before .put-pair .ensures) (c .before .before .before .before .before .before .before .loop .inv .2))
+loop-again c =
+    let args = c .before .before .before .before .before .before .before .before .before .before .args in
+    let loop = c .before .before .before .before .before .before .before .loop in
+    let put-pair = c .before .before .before .put-pair in
+    let step =
+    pairs-step (loop .end) (args .at) (loop .rest .now) (now (args .shown)) (now (args .out)) (loop .out) _ (omega arith)
+    (put-pair .ensures) (loop .inv .2) in
+    (simp (length-take, length-drop) (omega arith), omega arith, step)
 
 same-length : tie.Need-same-length Inv-loop μ-loop
 same-length c = c .before .loop .inv .1
@@ -50,7 +58,7 @@ same-length c = c .before .loop .inv .1
 returns : tie.Need-returns Inv-loop μ-loop
 returns c = let none = c .loop-test .left in record {
   within = omega arith;
-  reads = rw (pairs-end _ none, append-nil) at (c .before .loop .inv .2);
+  reads = rw (pairs-end (c .before .loop .rest .now) none, append-nil) at (c .before .loop .inv .2);
 }
 
 pub put-pairs-spec : {M : Type 1} → statement M
