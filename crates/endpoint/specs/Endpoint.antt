@@ -30,7 +30,7 @@ requestOf q bytes = record {
   state = stateOf (q .state);
 }
 
--- the store: the held bytes, then a room of data bytes for each live request
+-- the store: the held bytes, then a room of data bytes for each live request; where a room begins, and how long a store is
 abbrev pub roomPlace : (row : ℕ) → ℕ
 roomPlace i = heldMax + i * maxData
 
@@ -53,7 +53,8 @@ rowsOf live = take (live .count) (live .rows)
 abbrev pub liveOf : Requests → (store : List ℕ) → List ledger.Request
 liveOf live store = requestsFrom 0 (rowsOf live) store
 
--- the ledger
+-- "R, the clock, the next SEQ .., the next request ID, the controller's last SEQ .., and .. live requests"; and "the held bytes", at the
+-- front of the store
 abbrev pub ledgerOf : Endpoint → (store : List ℕ) → Ledger
 ledgerOf e store = record {
   reserved = e .reserved;

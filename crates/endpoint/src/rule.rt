@@ -122,7 +122,9 @@ fn is_bad_at(live: Requests, row: usize, reserved: u64, clock: u64) -> bool
     is_among(live, id, row + 1)
 }
 
-// Whether an ID is live in a row from one on. Asks for rows within their array and that one among them or behind the last in use.
+// Whether an ID is live in a row from one on. Asks for rows within their array and that one among them or behind the last in use, which
+// the callers here and in the crate above have.
+// Ruled out: the last row left out, and a row that is not in use.
 pub fn is_among(live: Requests, id: RequestId, from: usize) -> bool
     requires { ⌜ (from ≤ live .count) × (live .count ≤ liveMax) ⌝ }
     ensures { λ r. ⌜ r ≡ isLive (id .0) (bareOf (drop from (rowsOf live))) ⌝ }

@@ -29,8 +29,8 @@ use Rattle.host_claims.proofs.Refining.{refines, opened-as, steps}
 use Rattle.host_claims.proofs.Refused as refusing
 use Rattle.host_claims.proofs.Received as received
 
--- Demand 1, "each refusal exactly when the table says, and it changes nothing": where the table refuses a call, the answer is its
--- number, and endpoint, store and buffers are what they were
+-- Demand 1, each refusal exactly when the table says, and it changes nothing: where the table refuses a call, the answer is its number,
+-- and endpoint, store and buffers are what they were
 pub refused-where : (e : Endpoint) (store : List ℕ) (c : Call) (o : Outcome) → Promise e store c o → (n : ℕ)
     → refusalOf e store c ≡ some n → Refuses n e store c o
 refused-where e store c o promised n table = refusing.refused-where e store c o promised n table
@@ -93,8 +93,8 @@ module _ {given : ℕ} {first : opening.Opened} {past : List Entry} {e : Endpoin
   pub never-malformed : malformed e ≡ false
   never-malformed = demand-3 chain .sound
 
--- "Can a caller still be forgotten?" No: while the rule for the clock is kept, every request accepted at T has ended once a poll at
--- T + 12,000 ms or later answers quiet
+-- no caller is forgotten: while the clock rule is kept, every request accepted at T has ended once a poll at T + 12,000 ms or later
+-- answers quiet
 pub nobody-forgotten : {given : ℕ} {first : opening.Opened} {last : Entry} {past : List Entry} {e : Endpoint} {store : List ℕ}
     → Chain given first (last ∷ past) e store → keepsClockRule (last ∷ past) ≡ true
     → (time : Option ℕ) → last .answer ≡ polled (quiet time)

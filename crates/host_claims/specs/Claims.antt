@@ -31,7 +31,7 @@ pub record Demand3 (given : ℕ) (first : opening.Opened) (past : List Entry) (e
   pub ledger : ledgerOf e store ≡ run liveMax (start given) (callsIn past) .ledger
   pub sound : malformed e ≡ false
   -- of these outcomes: endings and frames belong to a request, requests end at most once, frames go out at most three times and are
-  -- equal, live IDs are distinct and unreserved; and under "the rule for the clock" every request ends in time
+  -- equal, live IDs are distinct and unreserved; and while the clock rule is kept every request ends in time
   pub claims : OutcomeClaims liveMax (reservedFor given) past
 
 -- demand 2 for a receive that the table does not refuse: item, bytes taken and bytes held then, as the line gives them

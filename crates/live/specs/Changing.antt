@@ -25,7 +25,7 @@ blank = record {
   state = queued;
 }
 
--- the live requests before a place, the one at it, and those after
+-- the live request at a place, and those after it
 abbrev pub at : (place : ℕ) → List Request → Request
 at i live = getD live i blank
 

@@ -17,7 +17,9 @@ pub enum Time {
     In(u64),
 }
 
-// The milliseconds to the earliest deadline of the live requests. Asks that no time is later than the clock.
+// The milliseconds to the earliest deadline of the live requests. For the host, which has refused a time later than the clock and more
+// requests than there are rows: it is its malformed endpoint.
+// Ruled out: the latest deadline, and a time that wraps where one has passed.
 pub fn time_left(live: Requests, clock: u64) -> Time
     requires { ⌜ (live .count ≤ liveMax) × NoneLate clock (rowsOf live) ⌝ }
     ensures { λ r. ⌜ timeOf r ≡ leftOf clock (earliest (bareOf (rowsOf live))) ⌝ }

@@ -29,7 +29,8 @@ pub fn first_free(live: Requests, reserved: u64, from: RequestId) -> RequestId
     id
 }
 
-// "after 65535 comes R + 1".
+// The ID after one: "after 65535 comes R + 1". For the host, which has refused an R over 255.
+// Ruled out: 0 after 65535, and a counter that stays at 65535.
 pub fn id_after(reserved: u64, id: RequestId) -> RequestId
     requires { ⌜ reserved ≤ reservedMax ⌝ }
     ensures { λ r. ⌜ r .0 ≡ idAfter reserved (id .0) ⌝ }

@@ -9,7 +9,8 @@ ghost use Rattle.endpoint.specs.Endpoint.{roomPlace, roomAt, storeLength};
 use command::MAX_DATA;
 use line::HELD_MAX;
 
-// Where a room begins.
+// Where a room begins. For the host and the functions here, whose row is within the array.
+// Ruled out: a room that overlaps the held bytes, and one that overlaps the next.
 pub fn place_of(row: usize) -> usize
     requires { ⌜ row ≤ liveMax ⌝ }
     ensures { λ r. ⌜ r ≡ roomPlace row ⌝ }

@@ -15,6 +15,7 @@ use endpoint::Requests;
 
 // The row of the oldest waiting request whose time is up; `count` where there is none. All three ask that the rows are within their
 // array: the callers have refused a malformed endpoint.
+// Ruled out, of all three: a later request where an older one is in that state, and a row that is not in use.
 pub fn oldest_overdue(live: Requests, clock: u64) -> usize
     requires { ⌜ live .count ≤ liveMax ⌝ }
     ensures { λ r. ⌜ r ≡ firstWhere (λ q. shows (Overdue clock) (requestOf q [])) (rowsOf live) ⌝ }
