@@ -1,0 +1,5 @@
+pub mod Tables
+pub mod Walks
+pub mod Positions
+pub mod Laws
+pub mod Examples

@@ -1,0 +1,4 @@
+pub mod Audit
+pub mod Promises
+pub mod Rows
+pub mod Code
