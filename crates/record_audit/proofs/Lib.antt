@@ -1,0 +1,4 @@
+mod Arrays
+mod RecordWalks
+pub mod LiveIds
+pub mod Laws
