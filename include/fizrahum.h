@@ -1,6 +1,6 @@
 /*
  * fizrahum.h: Fizrahum for C programs, the messages of the Surface Serial Hub
- * protocol.
+ * protocol, and the audit of a row of request IDs.
  *
  * Link with libc_api.a (x86-64 Linux):
  *
@@ -9,9 +9,9 @@
  * Every function here is compiled from code that was proved to meet its
  * contract, for every input that the rules below allow:
  *
- *   - A buffer is a pointer and the number of bytes behind it, which the caller
- *     must own for the length of the call. Where that number is 0 the pointer
- *     is not followed, and may be NULL.
+ *   - A buffer is a pointer and the number of bytes behind it, for a row the
+ *     number of IDs, which the caller must own for the length of the call.
+ *     Where that number is 0 the pointer is not followed, and may be NULL.
  *   - A buffer that is written to overlaps nothing else that the same call is
  *     handed.
  *   - No function keeps a pointer, allocates memory or has state of its own, so
@@ -126,6 +126,25 @@ size_t fizrahum_write(uint8_t *buffer, size_t size, size_t place, uint8_t type,
 uint8_t fizrahum_read(const uint8_t *bytes, size_t length, uint8_t *type,
                       uint8_t *seq, size_t *payload, size_t *len,
                       size_t *dropped, size_t *removed);
+
+/*
+ * Audits a row of request IDs, for an insurer's tool that asks whether they are
+ * sound. `reserved` is the number R: IDs 1 to R are those of events, and no
+ * request has one of these, or 0.
+ *
+ * Answers the first position, counted from 0, whose ID is 0, at most R, or
+ * equal to an earlier one; of two equal IDs that is the later one's. Where
+ * there is none, the answer is `count`. One number can carry both: a position
+ * is below `count`.
+ *
+ * It refuses nothing. Any R may be asked for, up to UINT64_MAX: with 65535 or
+ * more no ID is sound. A row of no IDs has none: the answer is 0, its `count`.
+ *
+ * The row is `count` numbers at `ids`, which must be aligned for uint16_t, as
+ * an array of them is. It is only read. A call needs some 8 KB of stack, for a
+ * table of the IDs that it has passed.
+ */
+size_t fizrahum_audit(const uint16_t *ids, size_t count, uint64_t reserved);
 
 #ifdef __cplusplus
 }

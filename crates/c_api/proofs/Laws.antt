@@ -1,6 +1,8 @@
--- What makes the numbers for C enough: one number tells a length from a refusal, and two name the payload's part.
-use Prim.Native.Nat.{ℕ, _+_, _≤_}
+-- What makes the numbers for C enough: one number tells a length from a refusal, two name the payload's part, and one tells a position from
+-- none.
+use Prim.Native.Nat.{ℕ, _+_, _≤_, _<_}
 use mathlib.Core.List.{List}
+use mathlib.Core.Option.{some}
 use mathlib.Core.Path.{_≡_, refl, sym}
 use native.Mathlib.Omega.{arith}
 use lib.ListN.{length, take, drop}
@@ -9,6 +11,8 @@ use Rattle.message.proofs.Found.{scan-within, message-at}
 use Rattle.message.specs.Bytes.{headerLength}
 use Rattle.message.specs.Items.{damagedHeader, forbidden, damagedPayload, message, Scan, undecided, decided, scan, partWith, payloadOf}
 use Rattle.message.specs.Writing.{accepted, written}
+use Rattle.audit.specs.Audit.{audit}
+use Rattle.audit.proofs.Laws.{found-is-first}
 use Rattle.c_api.specs.Numbers.{numbers, numbersOf, placeOf}
 
 -- a number from 10 on is a length; 7 and 6 are refusals
@@ -40,3 +44,7 @@ inside (decided (message type seq len) m k) xs h =
 
 pub place-within : (xs : List ℕ) → placeOf (scan xs) ≤ length xs
 place-within xs = inside (scan xs) xs refl
+
+-- a position that an audit finds is below the number of IDs; that number says that there is none
+pub position-below : (r : ℕ) (ids : List ℕ) {p : ℕ} → audit r ids ≡ some p → p < length ids
+position-below r ids {p} h = found-is-first r ids p h .within

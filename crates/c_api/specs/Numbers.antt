@@ -1,6 +1,7 @@
 -- What the functions for C answer as numbers (document 01: "called from a C host, with numbers and byte buffers only").
 use Prim.Native.Nat.{ℕ, _+_}
 use mathlib.Core.List.{List}
+use mathlib.Core.Option.{Option, none, some}
 use mathlib.Core.Path.{_≡_}
 use lib.ListN.{length}
 use Rattle.message.specs.Bytes as bytes
@@ -37,3 +38,9 @@ placeOf (decided damagedHeader n r) = 0
 placeOf (decided forbidden n r) = 0
 placeOf (decided damagedPayload n r) = 0
 placeOf (decided (message type seq len) n r) = n + headerLength
+
+-- the audit's answer: "the first position, counted from 0, .., or that there is none", for which the number of IDs in the row stands. A
+-- position is below that number.
+abbrev pub positionIn : (count : ℕ) → Option ℕ → ℕ
+positionIn count (some position) = position
+positionIn count none = count

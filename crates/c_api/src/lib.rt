@@ -1,11 +1,13 @@
-// The functions that C programs call, with numbers and byte buffers only. `include/fizrahum.h` declares them.
-// A `&[u8]` is passed as a pointer and then a length, a `&mut u8` and a `&mut usize` as a pointer.
-mod numbers; // the answers of the writer and the reader as numbers
+// The functions that C programs call, with numbers and buffers only. `include/fizrahum.h` declares them.
+// A `&[u8]` and a `&[u16]` are passed as a pointer and then a length, a `&mut u8` and a `&mut usize` as a pointer.
+mod numbers; // the answers of the writer, the reader and the audit as numbers
 
 ghost use mathlib.Core.Path.{_≡_};
+ghost use lib.ListN.{length};
 ghost use Rattle.checksum.specs.Checksum.{checksumOf};
 ghost use Rattle.message.specs.Items.{scan};
-ghost use Rattle.c_api.specs.Numbers.{WroteNumber, numbers, numbersOf};
+ghost use Rattle.audit.specs.Audit.{audit};
+ghost use Rattle.c_api.specs.Numbers.{WroteNumber, numbers, numbersOf, positionIn};
 use message::Seq;
 
 // The checksum of the bytes. With length 0 the pointer is not read, and may be null.
@@ -54,4 +56,14 @@ pub extern "C" fn fizrahum_read(
     *dropped = answer.dropped;
     *removed = answer.removed;
     answer.rule
+}
+
+// Audits a row of IDs, beside a number R. Answers the position found, or the number of IDs where there is none. The row is only read.
+// Ruled out: an answer of 0 where there is none, which is the first position's, and an audit that takes R for 0.
+#[no_mangle]
+pub extern "C" fn fizrahum_audit(ids: &[u16], reserved: u64) -> usize
+    ensures { λ r. ⌜ r ≡ positionIn (length (now (ids .entry))) (audit reserved (now (ids .entry))) ⌝ }
+{
+    let found = audit::audit_ids(ids, reserved);
+    numbers::of_finding(found, ids.len())
 }

@@ -1,10 +1,12 @@
-// The answers of the writer and the reader as numbers.
+// The answers of the writer, the reader and the audit as numbers.
 ghost use mathlib.Core.Path.{_≡_};
 ghost use Prim.Native.Nat.{_^_, _<_};
 ghost use Rattle.message.specs.Items.{decided};
 ghost use Rattle.message.specs.Promises.{answerOf, itemOf, scanOf};
-ghost use Rattle.c_api.specs.Numbers.{numberOf, numbers, numbersOf, placeOf};
+ghost use Rattle.audit.specs.Promises.{positionOf};
+ghost use Rattle.c_api.specs.Numbers.{numberOf, numbers, numbersOf, placeOf, positionIn};
 ghost use Rattle.c_api.specs.Code.{numbersIn};
+use audit::Finding;
 use message::header::HEADER_LENGTH;
 use message::reader::Item;
 use message::reader::Reading;
@@ -78,5 +80,15 @@ fn of_no_message(rule: u8, dropped: usize, removed: usize) -> Numbers
         len: 0,
         dropped,
         removed,
+    }
+}
+
+// The position, or the number of IDs in the row.
+pub(crate) fn of_finding(finding: Finding, count: usize) -> usize
+    ensures { λ r. ⌜ r ≡ positionIn count (positionOf finding) ⌝ }
+{
+    match finding {
+        Finding::At(position) => position,
+        Finding::None => count,
     }
 }
