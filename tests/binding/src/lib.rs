@@ -26,6 +26,7 @@ pub mod c {
             dropped: *mut usize,
             removed: *mut usize,
         ) -> u8;
+        pub fn fizrahum_audit(ids: *const u16, count: usize, reserved: u64) -> usize;
     }
 }
 
@@ -95,4 +96,10 @@ pub fn read_into(
 ) -> u8 {
     // SAFETY: the first pointer has as many bytes as is said; each of the others is a reference to a number of its own.
     unsafe { c::fizrahum_read(bytes.as_ptr(), bytes.len(), kind, seq, payload, len, dropped, removed) }
+}
+
+/// Answers the position found, or the number of IDs where there is none.
+pub fn audit(ids: &[u16], reserved: u64) -> usize {
+    // SAFETY: the function asks for a pointer to as many IDs as it is told, and only reads them.
+    unsafe { c::fizrahum_audit(ids.as_ptr(), ids.len(), reserved) }
 }

@@ -1,5 +1,6 @@
 //! A second implementation, written from document 01 alone, that the proved programs are compared with.
 
+pub mod audit;
 pub mod checksum;
 pub mod command;
 pub mod examples;

@@ -5,9 +5,10 @@ use binding::line::{receive_into, Numbers, Received, MORE, MOST_HELD};
 use binding::Reading;
 use compare::held::{held_and_new, CONTENTS};
 use compare::reader::Tally;
+use compare::rows::{one_twice, RESERVED};
 use compare::slices::{damaged, junk, message, mixture, KINDS};
 use compare::writer::places;
-use compare::{line, writer, Random};
+use compare::{audit, line, writer, Random};
 use independent::examples::MESSAGES;
 use independent::line::Line;
 use independent::message::Message;
@@ -17,6 +18,7 @@ fn main() {
     read_slices(&mut random);
     write_messages(&mut random);
     receive_pieces(&mut random);
+    audit_rows(&mut random);
 }
 
 fn read_slices(random: &mut Random) {
@@ -136,4 +138,21 @@ fn receive_once(array: &mut [u8], count: usize, new: &[u8]) -> (Received, usize)
         taken: *taken,
     };
     (received, *now_held)
+}
+
+fn audit_rows(random: &mut Random) {
+    let mut tally = audit::Tally::default();
+    for length in 0..=60 {
+        // of all IDs, and of so few that some are equal
+        for greatest in [65_535, 600] {
+            let ids: Vec<u16> = (0..length).map(|_| random.up_to(greatest) as u16).collect();
+            for r in RESERVED {
+                tally.row(&ids, r);
+            }
+        }
+    }
+    for r in [0, 38, 255] {
+        tally.row(&one_twice(r, random), r.into());
+    }
+    tally.report("exact heap buffers", [200, 0, 500, 30]);
 }
