@@ -82,3 +82,9 @@ pub fn junk(length: usize) -> Vec<u8> {
     }
     bytes
 }
+
+/// So many IDs that all differ, in no order, and none of them 0: times an odd number, in 16 bits, different numbers stay
+/// different, and only 0 becomes 0.
+pub fn ids(count: u16) -> Vec<u16> {
+    (1..=count).map(|number| number.wrapping_mul(40_503)).collect()
+}

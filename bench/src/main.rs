@@ -1,6 +1,7 @@
-//! The proved functions beside Rust ones of this folder, on 1 MiB each, an endpoint's calls, and the
+//! The proved functions beside Rust ones of this folder, on 1 MiB each, an endpoint's calls, audits of rows, and the
 //! program `lister` on 64 MiB.
 
+mod audit;
 mod checksum;
 mod contest;
 mod host;
@@ -20,6 +21,7 @@ fn main() -> std::io::Result<()> {
     readers();
     lines();
     host::report();
+    audit::report();
     println!("{lister}");
     Ok(())
 }
