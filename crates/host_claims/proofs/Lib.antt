@@ -2,3 +2,4 @@ pub mod Refining
 pub mod Refused
 pub mod Received
 pub mod Laws
+pub mod Audited
