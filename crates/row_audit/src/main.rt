@@ -1,8 +1,10 @@
-// The request-row audit on sample rows: a line each, the IDs, R and the answer, the first unsound position or `none`. The file
-// `stdout` beside this folder was written from document 01.
+// The request-row audit on sample rows: a line each, the IDs, R and the answer, the first unsound position or `none`; then on every
+// row of three records over a few IDs. The independent implementation wrote the file `stdout` beside this folder.
+mod every; // every row of three records
 mod print; // the parts of a line
 mod records; // rows of request records
 
+use crate::every::print_every;
 use crate::print::print_finding;
 use crate::print::print_id;
 use crate::print::print_reserved;
@@ -13,6 +15,7 @@ fn main() {
     print_sound();
     print_unsound();
     print_records();
+    print_every();
 }
 
 // Rows in which there is none.

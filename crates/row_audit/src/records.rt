@@ -22,7 +22,7 @@ pub(crate) fn print_records() {
 }
 
 // Live requests by their IDs, of which the first `count` are in use.
-fn live(first: u16, second: u16, third: u16, count: usize) -> Requests {
+pub(crate) fn live(first: u16, second: u16, third: u16, count: usize) -> Requests {
     let rows = [
         request(first, State::Waiting(5)),
         request(second, in_flight()),

@@ -11,6 +11,7 @@ pub mod listing;
 pub mod message;
 pub mod random;
 pub mod reader;
+pub mod rows;
 pub mod session;
 pub mod vectors;
 pub mod writer;

@@ -1,0 +1,5 @@
+//! Writes `crates/row_audit/stdout`.
+
+fn main() {
+    print!("{}", independent::rows::listing());
+}
