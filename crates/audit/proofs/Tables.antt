@@ -115,20 +115,22 @@ neither true b c e = absurd (true≢false e)
 neither false true c e = absurd (true≢false e)
 neither false false c e = refl
 
-module _ (r id : ℕ) (table after : List ℕ) where
+module _ (r id : ℕ) (table : List ℕ) where
   -- an ID that is 0 or at most R is unsound, whatever the table holds
-  pub judged-reserved : eqb id 0 || leb id r ≡ true → Judged r id table after true
+  pub judged-reserved : eqb id 0 || leb id r ≡ true → Judged r id table table true
   unfolding isUnsound
   judged-reserved e = record {
+    leaves = rw e refl;
     judged = λ earlier held. either (eqb id 0) (leb id r) (isAmong id earlier) e;
     marked = λ earlier held sound. absurd (true≢false sound);
   }
 
   -- another one is unsound exactly where the table holds it, and is marked
-  pub judged-marked : (answer : Bool) → eqb id 0 || leb id r ≡ false → length table ≡ words → id < words * bits → answer ≡ hasSeen table id → after ≡ withSeen table id
+  pub judged-marked : (after : List ℕ) (answer : Bool) → eqb id 0 || leb id r ≡ false → length table ≡ words → id < words * bits → answer ≡ hasSeen table id → after ≡ withSeen table id
       → Judged r id table after answer
   unfolding isUnsound
-  judged-marked answer e all small said kept = record {
+  judged-marked after answer e all small said kept = record {
+    leaves = rw e kept;
     judged = λ earlier held. said ∙ held id small ∙ neither (eqb id 0) (leb id r) (isAmong id earlier) e;
     marked = λ earlier held sound. subst (λ (t : List ℕ). Holds t (id ∷ earlier)) (sym kept) (holds-marked table earlier id all small held);
   }

@@ -1,10 +1,10 @@
 -- What the steps inside come to: the table of the IDs seen, and what is promised of one ID beside it. No promise of an audit cites it.
 use Prim.Native.Nat.{ℕ, _*_, _/_, _%_, _^_, _<_}
-use mathlib.Core.Bool.{Bool, false}
+use mathlib.Core.Bool.{Bool, false, _||_, cond as if}
 use mathlib.Core.List.{List, _∷_}
 use mathlib.Core.Path.{_≡_}
 use lib.Bits.{bitOr}
-use lib.Dec.{eqb}
+use lib.Dec.{eqb, leb}
 use lib.ListN.{getD, set}
 use Rattle.audit.specs.Audit.{isAmong, isUnsound}
 
@@ -32,8 +32,13 @@ withSeen table id = set table (id / bits) (bitOr (wordOf table id) (2 ^ (id % bi
 abbrev pub Holds : List ℕ → List ℕ → Type 0
 Holds table ids = (id : ℕ) → id < words * bits → hasSeen table id ≡ isAmong id ids
 
--- The promise of a step, for whatever IDs the table holds: the answer is that of the definition, and where the ID is sound the table
--- holds it too afterwards.
+-- the table after a step: as it was where the ID is 0 or at most R, and otherwise with the ID's bit set
+abbrev pub leftBy : (r id : ℕ) → List ℕ → List ℕ
+leftBy r id table = if (eqb id 0 || leb id r) table (withSeen table id)
+
+-- The promise of a step: the whole table afterwards; and for whatever IDs the table holds, the answer is that of the definition, and
+-- where the ID is sound the table holds it too afterwards.
 pub record Judged (r id : ℕ) (table after : List ℕ) (answer : Bool) : Type 0 where
+  pub leaves : after ≡ leftBy r id table
   pub judged : (earlier : List ℕ) → Holds table earlier → answer ≡ isUnsound r earlier id
   pub marked : (earlier : List ℕ) → Holds table earlier → answer ≡ false → Holds after (id ∷ earlier)

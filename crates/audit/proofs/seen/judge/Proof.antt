@@ -12,7 +12,7 @@ is-reserved-requires c κs = search needs
 returns : tie.Need-returns
 returns c =
     let a = c .before .before .before .args in
-    judged-reserved (a .reserved) (a .id) (now (a .seen)) _ (sym (c .before .is-reserved .ensures) ∙ c .if1 .taken)
+    judged-reserved (a .reserved) (a .id) (now (a .seen)) (sym (c .before .is-reserved .ensures) ∙ c .if1 .taken)
 
 mark-requires : tie.Need-mark-requires
 mark-requires c κs = search needs
