@@ -4,7 +4,9 @@ use mathlib.Core.Bool.{false}
 use mathlib.Core.List.{List}
 use mathlib.Core.Option.{Option, none, some}
 use mathlib.Core.Path.{_≡_, sym, _∙_}
+use borrow.Author.Tests.{ltb-false}
 use Rattle.ledger.specs.Calls.{Call}
+use Rattle.ledger.specs.Refusals.{Line, firstOf}
 use Rattle.ledger.specs.Runs.{accepts}
 use Rattle.endpoint.specs.Endpoint.{ledgerOf}
 use Rattle.endpoint.specs.Malformed.{malformed}
@@ -12,9 +14,11 @@ use Rattle.endpoint.specs.declared.Endpoint.{Endpoint}
 use Rattle.refinement.specs.Refusals.{refusalOf}
 use Rattle.refinement.proofs.Sound.{next-sound}
 use Rattle.host.specs.Promises.{Outcome, Refuses, Meets, ByTable, Promise}
-use Rattle.host.specs.Code.{checkOf, Does}
-use Rattle.host.specs.declared.refusals.Check.{Check}
-use Rattle.host.specs.declared.refusals.Check.the-variants.{Refused, Accepted}
+use Rattle.refusals.specs.Code.{checkOf, withEndpoint}
+use Rattle.refusals.proofs.Table.{passed}
+use Rattle.host.specs.Code.{Sound, Does}
+use Rattle.refusals.specs.declared.Check.{Check}
+use Rattle.refusals.specs.declared.Check.the-variants.{Refused, Accepted}
 
 by-table : (e : Endpoint) (store : List ℕ) (c : Call) (o : Outcome) {n : Option ℕ} → refusalOf e store c ≡ n
     → ByTable n e store c o
@@ -42,3 +46,8 @@ module _ (r : Check) {table : Option ℕ} (said : checkOf r ≡ table) where
 
   pub accepted-by : r ≡ Accepted → table ≡ none
   accepted-by h = let accepted : checkOf r ≡ none = rw h in sym said ∙ accepted
+
+-- an accepted call's endpoint
+pub sound-of : (e : Endpoint) (clock : ℕ) (own : List Line) → firstOf (withEndpoint e clock own) ≡ none → Sound e clock
+sound-of e clock own h =
+    let p = passed e clock own h in record { sound = p .fine; forward = ltb-false clock (e .clock) (p .early) }

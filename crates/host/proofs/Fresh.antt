@@ -22,7 +22,7 @@ use Rattle.endpoint.specs.Malformed.{tooLong, malformed}
 use Rattle.endpoint.specs.declared.Endpoint.{Endpoint}
 use Rattle.live.specs.Changing.{Fits}
 use Rattle.refinement.proofs.Sound.{endpoint-sound}
-use Rattle.host.proofs.Table.{first-holds, first-fails, no-line}
+use Rattle.refusals.proofs.Table.{first-holds, first-fails, no-line}
 
 -- an endpoint with the numbers of a fresh one
 module _ (e : Endpoint) (r : ℕ) (none-live : e .live .count ≡ 0) (same : e .reserved ≡ r) (start : e .clock ≡ 0)

@@ -30,11 +30,12 @@ use Rattle.live.proofs.Found.{free-rows}
 use Rattle.refinement.specs.Refusals.{refusalOf}
 use Rattle.refinement.proofs.Sound.{few-of, held-of, fits-of}
 use Rattle.host.specs.Promises.{submitOutcome}
-use Rattle.host.specs.Code.{withEndpoint, Sound, Does}
+use Rattle.refusals.specs.Code.{withEndpoint}
+use Rattle.host.specs.Code.{Sound, Does}
 use Rattle.host.specs.declared.answers.SubmitAnswer.the-variants as answer
 use Rattle.host.specs.declared.answers.Submitted.{Submitted}
 use Rattle.host.proofs.Held.{held-same}
-use Rattle.host.proofs.Table.{first-holds, passed, own-passed}
+use Rattle.refusals.proofs.Table.{first-holds, passed, own-passed}
 
 module _ (e : Endpoint) (fields : Fields) (wanted : Bool) (clock : ℕ) (store bytes : List ℕ) (three : length (e .live .rows) ≡ liveMax)
     (ready : Sound e clock) where

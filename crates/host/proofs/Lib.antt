@@ -1,4 +1,3 @@
-pub mod Table
 pub mod Calls
 pub mod Held
 pub mod Fresh

@@ -37,10 +37,11 @@ use Rattle.decisions.specs.declared.stepping.Step.{Step}
 use Rattle.decisions.specs.declared.stepping.Step.the-variants as step
 use Rattle.refinement.proofs.Sound.{held-of, fits-of}
 use Rattle.host.specs.Promises.{Outcome, pollOutcome}
-use Rattle.host.specs.Code.{withEndpoint, Sound, Does}
+use Rattle.refusals.specs.Code.{withEndpoint}
+use Rattle.host.specs.Code.{Sound, Does}
 use Rattle.host.specs.declared.answers.PollAnswer.the-variants as answer
 use Rattle.host.proofs.Held.{placed-none, held-same}
-use Rattle.host.proofs.Table.{passed, own-passed}
+use Rattle.refusals.proofs.Table.{passed, own-passed}
 
 -- the endpoint after a poll
 abbrev pub polledEndpoint : Endpoint → (live : Requests) (seq : Seq) (clock : ℕ) → Endpoint

@@ -20,17 +20,6 @@ use Rattle.endpoint.specs.declared.Endpoint.{Endpoint}
 use Rattle.live.specs.Changing.{Fits}
 use Rattle.decisions.specs.Verdicts.{replyTo}
 use Rattle.host.specs.Promises.{Outcome}
-use Rattle.host.specs.declared.refusals.Check.{Check}
-use Rattle.host.specs.declared.refusals.Check.the-variants.{Refused, Accepted}
-
--- what the table says
-abbrev pub checkOf : Check → Option ℕ
-checkOf (Refused n) = some n
-checkOf Accepted = none
-
--- the lines of every call with a clock, before its own
-abbrev pub withEndpoint : Endpoint → (clock : ℕ) → List Line → List Line
-withEndpoint e clock own = line 1 (malformed e) ∷ line 2 (ltb clock (e .clock)) ∷ own
 
 -- what an accepted call works with: an endpoint that is not malformed, a reading not below its clock, and a store of its length
 pub record Sound (e : Endpoint) (clock : ℕ) : Type 0 where

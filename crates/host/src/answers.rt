@@ -5,20 +5,6 @@ use ledger::Ending;
 use ledger::Word;
 use line::Answer;
 
-// The refusal numbers, by the table of document 01: endpoint malformed, clock below the last accepted reading, R over 255, data over 248
-// bytes, three live, a lent buffer too short.
-pub const MALFORMED: u8 = 1;
-
-pub const CLOCK_BELOW: u8 = 2;
-
-pub const RESERVED_OVER: u8 = 3;
-
-pub const DATA_OVER: u8 = 4;
-
-pub const ALL_LIVE: u8 = 5;
-
-pub const BUFFER_SHORT: u8 = 6;
-
 // Open: a refusal's number, or that it is done.
 pub enum OpenAnswer {
     Refused(u8),

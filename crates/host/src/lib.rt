@@ -4,4 +4,3 @@ pub mod opening; // open
 pub mod submitting; // submit
 pub mod receiving; // receive
 pub mod polling; // poll
-mod refusals; // which calls the table refuses

@@ -9,7 +9,6 @@ ghost use Rattle.endpoint.specs.Malformed.{malformed};
 ghost use Rattle.host.specs.Promises as promise;
 use crate::answers::OpenAnswer;
 use crate::answers::Opened;
-use crate::answers::RESERVED_OVER;
 use command::Fields;
 use command::RequestId;
 use endpoint::Endpoint;
@@ -20,6 +19,7 @@ use endpoint::Requests;
 use endpoint::State;
 use link::repeats::Seen;
 use link::sequence::first;
+use refusals::RESERVED_OVER;
 
 // Opens an endpoint that keeps the request IDs 1 to R for events. R over 255 is refusal 3, with the fresh endpoint for R = 0. The
 // store that is lent to the later calls may hold any bytes.

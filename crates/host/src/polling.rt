@@ -17,8 +17,6 @@ ghost use Rattle.decisions.specs.Steps.{stepOf, sentFrom};
 ghost use Rattle.decisions.specs.declared.stepping.Step.the-variants.{End};
 use crate::answers::PollAnswer;
 use crate::answers::Polled;
-use crate::refusals::Check;
-use crate::refusals::check_poll;
 use decisions::stepping::Step;
 use decisions::stepping::next_step;
 use endpoint::Endpoint;
@@ -36,6 +34,8 @@ use live::deadline::Time;
 use live::deadline::time_left;
 use live::rooms::place_of;
 use message::Seq;
+use refusals::Check;
+use refusals::check_poll;
 
 // Does what is due: at most one request ends, or one frame is put into the output. Where nothing is due it answers *quiet*.
 // Ruled out: a fourth transmission, and a queued request sent while another's frame is in flight.

@@ -25,8 +25,6 @@ use crate::answers::Ended;
 use crate::answers::Receipt;
 use crate::answers::ReceiveAnswer;
 use crate::answers::Received;
-use crate::refusals::Check;
-use crate::refusals::check_receive;
 use decisions::judging::Verdict;
 use decisions::judging::judge;
 use decisions::judging::only;
@@ -49,6 +47,8 @@ use live::changes::carry_out;
 use message::Seq;
 use message::header::DATA_SEQ;
 use message::reader::Item;
+use refusals::Check;
+use refusals::check_receive;
 
 // Takes bytes from the line until they decide one item, and acts on it. A reply stands at the front of the reply buffer afterwards,
 // the data of an event or a response at the front of the data buffer; all other bytes of both stay.

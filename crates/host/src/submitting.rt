@@ -13,8 +13,6 @@ ghost use Rattle.host.specs.Promises.{submitOutcome};
 ghost use Rattle.host.specs.Code.{Ready, Does};
 use crate::answers::SubmitAnswer;
 use crate::answers::Submitted;
-use crate::refusals::Check;
-use crate::refusals::check_submit;
 use command::Fields;
 use command::RequestId;
 use endpoint::Endpoint;
@@ -25,6 +23,8 @@ use endpoint::State;
 use live::changes::joined;
 use live::ids::first_free;
 use live::ids::id_after;
+use refusals::Check;
+use refusals::check_submit;
 
 // Asks for a command to be sent, with these fields and data, a response wanted or not, and answers its request ID.
 // Ruled out: an ID that is live, and a refused call that sets the clock.

@@ -5,7 +5,7 @@ use denote.Ref.{now}
 use lib.ListN.{length}
 use Rattle.ledger.specs.Calls.{poll}
 use Rattle.host.proofs.Calls.{meets, refuses, refused-by, accepted-by}
-use Rattle.host.proofs.Table.{sound-of}
+use Rattle.host.proofs.Calls.{sound-of}
 use Rattle.host.proofs.Stepping.{long-enough}
 use Rattle.host.proofs.polling.poll_in.Statement.{statement}
 use Rattle.host.proofs.polling.poll_in.Tie as tie

@@ -16,8 +16,9 @@ use Rattle.ledger.specs.Refusals.{line, firstOf}
 use Rattle.endpoint.specs.declared.Endpoint.{Endpoint}
 use Rattle.endpoint.proofs.Order.{neither}
 use Rattle.refinement.specs.Refusals.{refusalOf}
-use Rattle.host.specs.Code.{withEndpoint}
-use Rattle.host.proofs.Table.{passed, own-passed, sound-of}
+use Rattle.refusals.specs.Code.{withEndpoint}
+use Rattle.refusals.proofs.Table.{passed, own-passed}
+use Rattle.host.proofs.Calls.{sound-of}
 use Rattle.host.proofs.Calls.{meets, refuses, refused-by, accepted-by}
 use Rattle.host.proofs.receiving.receive_in.Statement.{statement}
 use Rattle.host.proofs.receiving.receive_in.Tie as tie

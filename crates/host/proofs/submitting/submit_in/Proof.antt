@@ -6,7 +6,7 @@ use denote.Ref.{now}
 use Rattle.command.specs.Promises.{fieldsOf}
 use Rattle.ledger.specs.Calls.{submit}
 use Rattle.host.proofs.Calls.{meets, refuses, refused-by, accepted-by}
-use Rattle.host.proofs.Table.{sound-of}
+use Rattle.host.proofs.Calls.{sound-of}
 use Rattle.host.proofs.Joining.{submit-table, room-of}
 use Rattle.host.proofs.submitting.submit_in.Statement.{statement}
 use Rattle.host.proofs.submitting.submit_in.Tie as tie

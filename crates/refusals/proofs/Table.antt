@@ -1,18 +1,17 @@
 -- The table's first two lines, tested before a call's own: what they say alone, and before others.
-use Prim.Native.Nat.{ℕ, _≤_}
+use Prim.Native.Nat.{ℕ}
 use mathlib.Core.Bool.{Bool, true, false, true≢false, cond as if}
 use mathlib.Core.List.{List, [], _∷_}
 use mathlib.Core.Option.{Option, none, some}
 use mathlib.Core.Path.{_≡_, refl, sym, _∙_}
 use native.Mathlib.Omega.{arith}
 use lib.Dec.{ltb}
-use borrow.Author.Tests.{ltb-false}
 use Rattle.ledger.specs.Refusals.{Line, line, firstOf}
 use Rattle.endpoint.specs.Malformed.{malformed}
 use Rattle.endpoint.specs.declared.Endpoint.{Endpoint}
-use Rattle.host.specs.Code.{checkOf, withEndpoint, Sound}
-use Rattle.host.specs.declared.refusals.Check.{Check}
-use Rattle.host.specs.declared.refusals.Check.the-variants.{Refused, Accepted}
+use Rattle.refusals.specs.Code.{checkOf, withEndpoint}
+use Rattle.refusals.specs.declared.Check.{Check}
+use Rattle.refusals.specs.declared.Check.the-variants.{Refused, Accepted}
 
 -- what a test of a line says
 pub first-holds : (n : ℕ) (b : Bool) (rest : List Line) → b ≡ true → firstOf (line n b ∷ rest) ≡ some n
@@ -66,11 +65,6 @@ two-passed false false own h = record { fine = refl; early = refl; rest = h }
 pub passed : (e : Endpoint) (clock : ℕ) (own : List Line) → firstOf (withEndpoint e clock own) ≡ none
     → Passed own (malformed e) (ltb clock (e .clock))
 passed e clock own h = two-passed (malformed e) (ltb clock (e .clock)) own h
-
--- an accepted call's endpoint
-pub sound-of : (e : Endpoint) (clock : ℕ) (own : List Line) → firstOf (withEndpoint e clock own) ≡ none → Sound e clock
-sound-of e clock own h =
-    let p = passed e clock own h in record { sound = p .fine; forward = ltb-false clock (e .clock) (p .early) }
 
 -- the first of a call's own lines did not hold
 one-passed : (n : ℕ) (b : Bool) (rest : List Line) → firstOf (line n b ∷ rest) ≡ none → (b ≡ false) × (firstOf rest ≡ none)

@@ -1,10 +1,10 @@
--- `host::refusals::check_endpoint` meets its contract: line 1, then line 2.
+-- `refusals::check_endpoint` meets its contract: line 1, then line 2.
 use mathlib.Core.Path.{sym, _∙_}
 use borrow.Author.Needs.{needs}
 use borrow.Author.Tests.{lt-ltb, le-ltb}
-use Rattle.host.proofs.Table.{first-holds, first-fails, no-line}
-use Rattle.host.proofs.refusals.check_endpoint.Statement.{statement}
-use Rattle.host.proofs.refusals.check_endpoint.Tie as tie
+use Rattle.refusals.proofs.Table.{first-holds, first-fails, no-line}
+use Rattle.refusals.proofs.check_endpoint.Statement.{statement}
+use Rattle.refusals.proofs.check_endpoint.Tie as tie
 
 is-malformed-requires : tie.Need-is-malformed-requires
 is-malformed-requires c κs = search needs

@@ -1,10 +1,10 @@
--- `host::refusals::check_submit` meets its contract: lines 1 and 2, then 4 and 5.
+-- `refusals::check_submit` meets its contract: lines 1 and 2, then 4 and 5.
 use mathlib.Core.Path.{sym, _∙_}
 use borrow.Author.Needs.{needs}
 use borrow.Author.Tests.{eq-eqb, ne-eqb}
-use Rattle.host.proofs.Table.{first-holds, first-fails, no-line, refused-check, accepted-check}
-use Rattle.host.proofs.refusals.check_submit.Statement.{statement}
-use Rattle.host.proofs.refusals.check_submit.Tie as tie
+use Rattle.refusals.proofs.Table.{first-holds, first-fails, no-line, refused-check, accepted-check}
+use Rattle.refusals.proofs.check_submit.Statement.{statement}
+use Rattle.refusals.proofs.check_submit.Tie as tie
 
 check-endpoint-requires : tie.Need-check-endpoint-requires
 check-endpoint-requires c κs = search needs

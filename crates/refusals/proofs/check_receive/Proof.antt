@@ -1,11 +1,11 @@
--- `host::refusals::check_receive` meets its contract: lines 1 and 2, then line 6 of either buffer.
+-- `refusals::check_receive` meets its contract: lines 1 and 2, then line 6 of either buffer.
 use mathlib.Core.Bool.{or-true}
 use mathlib.Core.Path.{sym, _∙_}
 use borrow.Author.Needs.{needs}
 use borrow.Author.Tests.{lt-ltb, le-ltb}
-use Rattle.host.proofs.Table.{first-holds, first-fails, no-line, refused-check, accepted-check}
-use Rattle.host.proofs.refusals.check_receive.Statement.{statement}
-use Rattle.host.proofs.refusals.check_receive.Tie as tie
+use Rattle.refusals.proofs.Table.{first-holds, first-fails, no-line, refused-check, accepted-check}
+use Rattle.refusals.proofs.check_receive.Statement.{statement}
+use Rattle.refusals.proofs.check_receive.Tie as tie
 
 check-endpoint-requires : tie.Need-check-endpoint-requires
 check-endpoint-requires c κs = search needs

@@ -7,12 +7,7 @@ ghost use Rattle.message.specs.Bytes.{total, maxLen};
 ghost use Rattle.command.specs.Payload.{maxData};
 ghost use Rattle.ledger.specs.Parts.{liveMax};
 ghost use Rattle.ledger.specs.Refusals.{line, firstOf};
-ghost use Rattle.host.specs.Code.{checkOf, withEndpoint};
-use crate::answers::ALL_LIVE;
-use crate::answers::BUFFER_SHORT;
-use crate::answers::CLOCK_BELOW;
-use crate::answers::DATA_OVER;
-use crate::answers::MALFORMED;
+ghost use Rattle.refusals.specs.Code.{checkOf, withEndpoint};
 use command::MAX_DATA;
 use command::writer::is_too_long;
 use endpoint::Endpoint;
@@ -21,8 +16,22 @@ use endpoint::rule::is_malformed;
 use message::header::MAX_LEN;
 use message::header::OVERHEAD;
 
+// The refusal numbers, by the table of document 01: endpoint malformed, clock below the last accepted reading, R over 255, data over 248
+// bytes, three live, a lent buffer too short.
+pub const MALFORMED: u8 = 1;
+
+pub const CLOCK_BELOW: u8 = 2;
+
+pub const RESERVED_OVER: u8 = 3;
+
+pub const DATA_OVER: u8 = 4;
+
+pub const ALL_LIVE: u8 = 5;
+
+pub const BUFFER_SHORT: u8 = 6;
+
 // What the table says: a refusal's number, or that the call is accepted.
-pub(crate) enum Check {
+pub enum Check {
     Refused(u8),
     Accepted,
 }
@@ -41,7 +50,7 @@ fn check_endpoint(e: Endpoint, clock: u64) -> Check
 }
 
 // Submit: 1, 2, then "data over 248 bytes" and "three live".
-pub(crate) fn check_submit(e: Endpoint, len: usize, clock: u64) -> Check
+pub fn check_submit(e: Endpoint, len: usize, clock: u64) -> Check
     ensures { λ r. ⌜ checkOf r
         ≡ firstOf (withEndpoint e clock (line 4 (ltb maxData len) ∷ line 5 (eqb (e .live .count) liveMax) ∷ [])) ⌝ }
 {
@@ -60,7 +69,7 @@ pub(crate) fn check_submit(e: Endpoint, len: usize, clock: u64) -> Check
 }
 
 // Receive: 1, 2, then "reply buffer under 10 or data buffer under 248".
-pub(crate) fn check_receive(e: Endpoint, reply: usize, buffer: usize, clock: u64) -> Check
+pub fn check_receive(e: Endpoint, reply: usize, buffer: usize, clock: u64) -> Check
     ensures { λ r. ⌜ checkOf r
         ≡ firstOf (withEndpoint e clock (line 6 (ltb reply (total 0) || ltb buffer maxData) ∷ [])) ⌝ }
 {
@@ -78,7 +87,7 @@ pub(crate) fn check_receive(e: Endpoint, reply: usize, buffer: usize, clock: u64
 }
 
 // Poll: 1, 2, then "output buffer under 266".
-pub(crate) fn check_poll(e: Endpoint, output: usize, clock: u64) -> Check
+pub fn check_poll(e: Endpoint, output: usize, clock: u64) -> Check
     ensures { λ r. ⌜ checkOf r ≡ firstOf (withEndpoint e clock (line 6 (ltb output (total maxLen)) ∷ [])) ⌝ }
 {
     let check = check_endpoint(e, clock);
