@@ -1,4 +1,5 @@
-// Which calls the table refuses, in its order (document 01, "Refusal numbers, tested in this order").
+// Which calls the table refuses, in its order (document 01, "Refusal numbers, tested in this order"). The checks are public for the crate
+// of the calls alone.
 ghost use mathlib.Core.Path.{_≡_};
 ghost use mathlib.Core.Bool.{_||_};
 ghost use mathlib.Core.List.{[], _∷_};
@@ -50,6 +51,7 @@ fn check_endpoint(e: Endpoint, clock: u64) -> Check
 }
 
 // Submit: 1, 2, then "data over 248 bytes" and "three live".
+// Ruled out: 5 before 4, and a fourth live request let through.
 pub fn check_submit(e: Endpoint, len: usize, clock: u64) -> Check
     ensures { λ r. ⌜ checkOf r
         ≡ firstOf (withEndpoint e clock (line 4 (ltb maxData len) ∷ line 5 (eqb (e .live .count) liveMax) ∷ [])) ⌝ }
@@ -69,6 +71,7 @@ pub fn check_submit(e: Endpoint, len: usize, clock: u64) -> Check
 }
 
 // Receive: 1, 2, then "reply buffer under 10 or data buffer under 248".
+// Ruled out: a reply buffer of 9 let through, and a data buffer of 248 refused.
 pub fn check_receive(e: Endpoint, reply: usize, buffer: usize, clock: u64) -> Check
     ensures { λ r. ⌜ checkOf r
         ≡ firstOf (withEndpoint e clock (line 6 (ltb reply (total 0) || ltb buffer maxData) ∷ [])) ⌝ }
@@ -87,6 +90,7 @@ pub fn check_receive(e: Endpoint, reply: usize, buffer: usize, clock: u64) -> Ch
 }
 
 // Poll: 1, 2, then "output buffer under 266".
+// Ruled out: an output of 265 let through, and 6 before 2.
 pub fn check_poll(e: Endpoint, output: usize, clock: u64) -> Check
     ensures { λ r. ⌜ checkOf r ≡ firstOf (withEndpoint e clock (line 6 (ltb output (total maxLen)) ∷ [])) ⌝ }
 {
