@@ -1,10 +1,8 @@
 -- What the steps inside the calls come to, in the ledger's terms. What the calls promise does not cite these.
 use Prim.Native.Nat.{ℕ, _≤_}
 use mathlib.Core.Bool.{false}
-use mathlib.Core.List.{List, [], _∷_}
-use mathlib.Core.Option.{Option, none, some}
+use mathlib.Core.List.{List, []}
 use mathlib.Core.Path.{_≡_}
-use lib.Dec.{ltb}
 use lib.ListN.{length, take, drop}
 use Rattle.message.specs.Items as items
 use Rattle.message.specs.Items.{damagedHeader, forbidden, damagedPayload}
@@ -13,7 +11,6 @@ use Rattle.line.specs.Promises.{Decides}
 use Rattle.line.specs.declared.decision.Decision.{Decision}
 use Rattle.ledger.specs.Answers.{Done}
 use Rattle.ledger.specs.Receiving.{nakMessage}
-use Rattle.ledger.specs.Refusals.{Line, line}
 use Rattle.endpoint.specs.Endpoint.{storeLength, ledgerOf}
 use Rattle.endpoint.specs.Malformed.{malformed}
 use Rattle.endpoint.specs.declared.Endpoint.{Endpoint}
