@@ -1,4 +1,4 @@
-// Open (document 01, "A fresh endpoint has clock 0, next request ID R + 1, nothing live and nothing held.").
+// A fresh endpoint (document 01, "A fresh endpoint has clock 0, next request ID R + 1, nothing live and nothing held.").
 ghost use mathlib.Core.Path.{_≡_};
 ghost use mathlib.Core.Bool.{false};
 ghost use mathlib.Core.List.{List};
@@ -6,41 +6,18 @@ ghost use Prim.Native.Nat.{ℕ, _≤_};
 ghost use Rattle.ledger.specs.Parts.{reservedMax, fresh};
 ghost use Rattle.endpoint.specs.Endpoint.{ledgerOf};
 ghost use Rattle.endpoint.specs.Malformed.{malformed};
-ghost use Rattle.host.specs.Promises as promise;
-use crate::answers::OpenAnswer;
-use crate::answers::Opened;
 use command::Fields;
 use command::RequestId;
 use endpoint::Endpoint;
 use endpoint::LIVE_MAX;
-use endpoint::RESERVED_MAX;
 use endpoint::Request;
 use endpoint::Requests;
 use endpoint::State;
 use link::repeats::Seen;
 use link::sequence::first;
-use refusals::RESERVED_OVER;
 
-// Opens an endpoint that keeps the request IDs 1 to R for events. R over 255 is refusal 3, with the fresh endpoint for R = 0. The
-// store that is lent to the later calls may hold any bytes.
-// Ruled out: a first ID of R, and a refusal that hands back the endpoint for the R given.
-pub fn open(reserved: u64) -> Opened
-    ensures { λ r. ⌜ promise.Opened r reserved ⌝ }
-{
-    if RESERVED_MAX < reserved {
-        return Opened {
-            answer: OpenAnswer::Refused(RESERVED_OVER),
-            endpoint: fresh(0),
-        };
-    }
-    Opened {
-        answer: OpenAnswer::Opened,
-        endpoint: fresh(reserved),
-    }
-}
-
-// A fresh endpoint.
-fn fresh(reserved: u64) -> Endpoint
+// The fresh endpoint for R, which open has found to be 255 at most.
+pub(crate) fn fresh(reserved: u64) -> Endpoint
     requires { ⌜ reserved ≤ reservedMax ⌝ }
     ensures { λ r. ⌜ ((store : List ℕ) → ledgerOf r store ≡ fresh reserved) × (malformed r ≡ false) ⌝ }
 {

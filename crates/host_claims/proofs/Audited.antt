@@ -11,7 +11,7 @@ use Rattle.endpoint.specs.Endpoint.{rowsOf}
 use Rattle.endpoint.specs.declared.Endpoint.{Endpoint}
 use Rattle.record_audit.specs.Records.{idsOf}
 use Rattle.record_audit.proofs.Laws.{sound-endpoint}
-use Rattle.host.specs.declared.answers.Opened as opening
+use Rattle.host_answers.specs.declared.Opened as opening
 use Rattle.host_claims.specs.Chains.{Chain, callsIn}
 use Rattle.host_claims.proofs.Laws.{demand-3, never-malformed}
 

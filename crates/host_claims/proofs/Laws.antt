@@ -18,11 +18,11 @@ use Rattle.endpoint.specs.Endpoint.{ledgerOf}
 use Rattle.endpoint.specs.Malformed.{malformed}
 use Rattle.endpoint.specs.declared.Endpoint.{Endpoint}
 use Rattle.refinement.specs.Refusals.{refusalOf}
-use Rattle.host.specs.Answers.{openAnswerOf}
-use Rattle.host.specs.Promises.{Outcome, Refuses, Promise}
-use Rattle.host.specs.Promises as promise
-use Rattle.host.specs.declared.answers.Opened as opening
-use Rattle.host.specs.declared.answers.Received as receiving
+use Rattle.host_answers.specs.Answers.{openAnswerOf}
+use Rattle.host_answers.specs.Promises.{Outcome, Refuses, Promise}
+use Rattle.host_answers.specs.Promises as promise
+use Rattle.host_answers.specs.declared.Opened as opening
+use Rattle.host_answers.specs.declared.Received as receiving
 use Rattle.host_claims.specs.Chains.{Chain, callsIn}
 use Rattle.host_claims.specs.Claims.{Demand3, Receipts}
 use Rattle.host_claims.proofs.Refining.{refines, opened-as, steps}

@@ -10,9 +10,9 @@ use Rattle.ledger.specs.Runs.{accepts}
 use Rattle.endpoint.specs.Endpoint.{ledgerOf}
 use Rattle.endpoint.specs.declared.Endpoint.{Endpoint}
 use Rattle.refinement.specs.Refusals.{refusalOf}
-use Rattle.host.specs.Promises.{Meets, receiveOutcome}
-use Rattle.host.specs.Promises as promise
-use Rattle.host.specs.declared.answers.Received.{Received}
+use Rattle.host_answers.specs.Promises.{Meets, receiveOutcome}
+use Rattle.host_answers.specs.Promises as promise
+use Rattle.host_answers.specs.declared.Received.{Received}
 use Rattle.host_claims.specs.Claims.{Gives, Receipts}
 
 gives : (r : Received) (e : Endpoint) (bytes reply buffer : List ℕ) (clock : ℕ) (store exit replyExit bufferExit : List ℕ)

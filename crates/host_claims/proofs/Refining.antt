@@ -15,9 +15,9 @@ use Rattle.endpoint.specs.Malformed.{malformed}
 use Rattle.endpoint.specs.declared.Endpoint.{Endpoint}
 use Rattle.refinement.specs.Refusals.{refusalOf}
 use Rattle.refinement.proofs.Sound.{same-refusal}
-use Rattle.host.specs.Answers.{openAnswerOf}
-use Rattle.host.specs.Promises.{Outcome, ByTable, Promise}
-use Rattle.host.specs.declared.answers.Opened.{Opened}
+use Rattle.host_answers.specs.Answers.{openAnswerOf}
+use Rattle.host_answers.specs.Promises.{Outcome, ByTable, Promise}
+use Rattle.host_answers.specs.declared.Opened.{Opened}
 use Rattle.host_claims.specs.Chains.{Chain, opens, submits, receives, polls, callsIn}
 
 -- one call after a list of calls

@@ -14,7 +14,7 @@ use Rattle.endpoint.specs.Malformed.{malformed}
 use Rattle.endpoint.specs.declared.Endpoint.{Endpoint}
 use Rattle.refinement.specs.Refusals.{lines, refusalOf}
 use Rattle.refinement.proofs.Sound.{same-refusal}
-use Rattle.host.specs.Promises.{Outcome, Refuses, ByTable, Promise}
+use Rattle.host_answers.specs.Promises.{Outcome, Refuses, ByTable, Promise}
 use Rattle.host_claims.proofs.Refining.{steps}
 
 module _ (e : Endpoint) (store : List ℕ) (c : Call) (o : Outcome) (promised : Promise e store c o) where

@@ -8,12 +8,12 @@ use Rattle.command.specs.declared.Fields.{Fields}
 use Rattle.ledger.specs.Calls.{Call, submit, receive, poll}
 use Rattle.ledger.specs.Runs.{Entry}
 use Rattle.endpoint.specs.declared.Endpoint.{Endpoint}
-use Rattle.host.specs.Answers.{submitAnswerOf, receiveAnswerOf, pollAnswerOf}
-use Rattle.host.specs.Promises as promise
-use Rattle.host.specs.declared.answers.Opened as opening
-use Rattle.host.specs.declared.answers.Submitted as submitting
-use Rattle.host.specs.declared.answers.Received as receiving
-use Rattle.host.specs.declared.answers.Polled as polling
+use Rattle.host_answers.specs.Answers.{submitAnswerOf, receiveAnswerOf, pollAnswerOf}
+use Rattle.host_answers.specs.Promises as promise
+use Rattle.host_answers.specs.declared.Opened as opening
+use Rattle.host_answers.specs.declared.Submitted as submitting
+use Rattle.host_answers.specs.declared.Received as receiving
+use Rattle.host_answers.specs.declared.Polled as polling
 
 -- what open was given and has handed back, what each later call has answered, newest first, and the endpoint and the store
 -- afterwards. Each call is related to the next by the

@@ -15,9 +15,9 @@ use Rattle.endpoint.specs.Endpoint.{ledgerOf}
 use Rattle.endpoint.specs.Malformed.{malformed}
 use Rattle.endpoint.specs.declared.Endpoint.{Endpoint}
 use Rattle.refinement.specs.Refusals.{refusalOf}
-use Rattle.host.specs.Answers.{openAnswerOf, receiveAnswerOf}
-use Rattle.host.specs.declared.answers.Opened as opening
-use Rattle.host.specs.declared.answers.Received as receiving
+use Rattle.host_answers.specs.Answers.{openAnswerOf, receiveAnswerOf}
+use Rattle.host_answers.specs.declared.Opened as opening
+use Rattle.host_answers.specs.declared.Received as receiving
 use Rattle.host_claims.specs.Chains.{callsIn}
 
 -- demand 3, of what open handed back, what each later call has answered, newest first, and of the endpoint and the store afterwards

@@ -4,12 +4,12 @@ use crate::endpoints::EARLIER;
 use command::Fields;
 use endpoint::Endpoint;
 use endpoint::STORE_LENGTH;
-use host::answers::PollAnswer;
-use host::answers::ReceiveAnswer;
-use host::answers::SubmitAnswer;
-use host::polling::poll;
-use host::receiving::receive;
-use host::submitting::submit;
+use host::poll;
+use host::receive;
+use host::submit;
+use host_answers::PollAnswer;
+use host_answers::ReceiveAnswer;
+use host_answers::SubmitAnswer;
 use libc::STDOUT_FILENO;
 
 // The line of an endpoint, with calls that nothing is wrong with but the endpoint.

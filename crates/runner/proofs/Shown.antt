@@ -7,8 +7,8 @@ use native.Mathlib.Omega.{arith}
 use lib.ListN.{length, take, drop, getD, length-take}
 use borrow.Author.Tests.{eq-eqb, ne-eqb}
 use Rattle.message.proofs.Buffer.{lentFrom, tail}
-use Rattle.host.specs.declared.answers.PollAnswer.{PollAnswer}
-use Rattle.host.specs.declared.answers.ReceiveAnswer.{ReceiveAnswer}
+use Rattle.host_answers.specs.declared.PollAnswer.{PollAnswer}
+use Rattle.host_answers.specs.declared.ReceiveAnswer.{ReceiveAnswer}
 use Rattle.script.specs.Limits.{lentMax}
 use Rattle.transcript.proofs.Putting.{behind, wider}
 use Rattle.transcript.specs.Lines.{receiveText, pollText, endText, receiveRoom, pollRoom, endRoom}

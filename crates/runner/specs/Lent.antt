@@ -6,10 +6,10 @@ use lib.Dec.{eqb}
 use lib.ListN.{length, take, drop}
 use Rattle.ledger.specs.declared.Word.{Word}
 use Rattle.ledger.specs.declared.Word.the-variants as words
-use Rattle.host.specs.declared.answers.ReceiveAnswer.{ReceiveAnswer}
-use Rattle.host.specs.declared.answers.ReceiveAnswer.the-variants as receiving
-use Rattle.host.specs.declared.answers.PollAnswer.{PollAnswer}
-use Rattle.host.specs.declared.answers.PollAnswer.the-variants as polling
+use Rattle.host_answers.specs.declared.ReceiveAnswer.{ReceiveAnswer}
+use Rattle.host_answers.specs.declared.ReceiveAnswer.the-variants as receiving
+use Rattle.host_answers.specs.declared.PollAnswer.{PollAnswer}
+use Rattle.host_answers.specs.declared.PollAnswer.the-variants as polling
 use Rattle.transcript.specs.Lines.{receiveText, pollText, endText}
 
 -- what the lent buffers are filled with

@@ -11,20 +11,20 @@ use Rattle.command.specs.declared.Fields.{Fields}
 use Rattle.ledger.specs.declared.Cause.{Cause}
 use Rattle.ledger.specs.declared.Cause.the-variants.{Acknowledged, Response, NoResponse, NoAcknowledgement}
 use Rattle.ledger.specs.declared.Ending.{Ending}
-use Rattle.host.specs.declared.answers.OpenAnswer.{OpenAnswer}
-use Rattle.host.specs.declared.answers.OpenAnswer.the-variants as opening
-use Rattle.host.specs.declared.answers.SubmitAnswer.{SubmitAnswer}
-use Rattle.host.specs.declared.answers.SubmitAnswer.the-variants as submitting
+use Rattle.host_answers.specs.declared.OpenAnswer.{OpenAnswer}
+use Rattle.host_answers.specs.declared.OpenAnswer.the-variants as opening
+use Rattle.host_answers.specs.declared.SubmitAnswer.{SubmitAnswer}
+use Rattle.host_answers.specs.declared.SubmitAnswer.the-variants as submitting
 use Rattle.ledger.specs.declared.Command.{Command}
 use Rattle.ledger.specs.declared.Word.{Word}
 use Rattle.ledger.specs.declared.Word.the-variants as words
-use Rattle.host.specs.declared.answers.Ended.{Ended}
-use Rattle.host.specs.declared.answers.Ended.the-variants as endings
-use Rattle.host.specs.declared.answers.Receipt.{Receipt}
-use Rattle.host.specs.declared.answers.ReceiveAnswer.{ReceiveAnswer}
-use Rattle.host.specs.declared.answers.ReceiveAnswer.the-variants as receiving
-use Rattle.host.specs.declared.answers.PollAnswer.{PollAnswer}
-use Rattle.host.specs.declared.answers.PollAnswer.the-variants as polling
+use Rattle.host_answers.specs.declared.Ended.{Ended}
+use Rattle.host_answers.specs.declared.Ended.the-variants as endings
+use Rattle.host_answers.specs.declared.Receipt.{Receipt}
+use Rattle.host_answers.specs.declared.ReceiveAnswer.{ReceiveAnswer}
+use Rattle.host_answers.specs.declared.ReceiveAnswer.the-variants as receiving
+use Rattle.host_answers.specs.declared.PollAnswer.{PollAnswer}
+use Rattle.host_answers.specs.declared.PollAnswer.the-variants as polling
 use Rattle.transcript.specs.Text.{ascii, named, shownAs, pairsRoom}
 
 -- a message, with TYPE, SEQ and LEN, or what was found in its place

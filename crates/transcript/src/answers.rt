@@ -12,11 +12,11 @@ use crate::parts::put_lent;
 use crate::parts::put_word;
 use crate::text::put;
 use crate::text::put_named;
-use host::answers::OpenAnswer;
-use host::answers::PollAnswer;
-use host::answers::Receipt;
-use host::answers::ReceiveAnswer;
-use host::answers::SubmitAnswer;
+use host_answers::OpenAnswer;
+use host_answers::PollAnswer;
+use host_answers::Receipt;
+use host_answers::ReceiveAnswer;
+use host_answers::SubmitAnswer;
 use ledger::Word;
 use line::Answer;
 

@@ -10,7 +10,7 @@ use crate::text::put;
 use crate::text::put_bytes;
 use crate::text::put_named;
 use command::Fields;
-use host::answers::Ended;
+use host_answers::Ended;
 use ledger::Cause;
 use ledger::Command;
 use ledger::Ending;

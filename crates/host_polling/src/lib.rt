@@ -1,0 +1,180 @@
+// Poll (document 01, **Poll**), with the store as a slice of its length: for `host`, which lends it by its type.
+ghost use mathlib.Core.Path.{_≡_};
+ghost use mathlib.Core.List.{List};
+ghost use Prim.Native.Nat.{ℕ, _≤_, _<_};
+ghost use lib.ListN.{length};
+ghost use Rattle.message.specs.Bytes.{total, maxLen};
+ghost use Rattle.link.specs.Promises.{frameOf};
+ghost use Rattle.ledger.specs.Polling as ledger;
+ghost use Rattle.ledger.specs.Polling.{frameBytes, step4, polledAs};
+ghost use Rattle.endpoint.specs.Endpoint.{storeLength, ledgerOf, liveOf};
+ghost use Rattle.live.specs.Changing.{at, Fits};
+ghost use Rattle.frames.specs.Promises.{Put};
+ghost use Rattle.host_answers.specs.Promises as promise;
+ghost use Rattle.host_answers.specs.Promises.{pollOutcome};
+ghost use Rattle.host_answers.specs.Code.{Sound, Ready, Does};
+ghost use Rattle.decisions.specs.Steps.{stepOf, sentFrom};
+ghost use Rattle.decisions.specs.declared.stepping.Step.the-variants.{End};
+use decisions::stepping::Step;
+use decisions::stepping::next_step;
+use endpoint::Endpoint;
+use endpoint::Requests;
+use endpoint::State;
+use frames::put_command;
+use host_answers::PollAnswer;
+use host_answers::Polled;
+use ledger::Cause;
+use ledger::Ending;
+use link::frame::Frame;
+use link::sequence;
+use live::Change;
+use live::changes::carry_out;
+use live::deadline::Time;
+use live::deadline::time_left;
+use live::rooms::place_of;
+use message::Seq;
+use refusals::Check;
+use refusals::check_poll;
+
+// What `host::poll` does and promises.
+pub fn poll_in(e: Endpoint, store: &mut [u8], output: &mut [u8], clock: u64) -> Polled
+    requires { ⌜ length (now store) ≡ storeLength ⌝ }
+    ensures { λ r. ⌜ promise.Polled r e (now (output .entry)) clock (now (store .entry)) (now (store .exit)) (now (output .exit)) ⌝ }
+{
+    let check = check_poll(e, output.len(), clock);
+    match check {
+        Check::Refused(number) => Polled {
+            answer: PollAnswer::Refused(number),
+            endpoint: e,
+        },
+        Check::Accepted => accept(e, store, output, clock),
+    }
+}
+
+// A poll that the table does not refuse.
+fn accept(e: Endpoint, store: &mut [u8], output: &mut [u8], clock: u64) -> Polled
+    requires { ⌜ Ready e clock (now store) × (total maxLen ≤ length (now output)) ⌝ }
+    ensures { λ r. ⌜ Does (ledger.poll (ledgerOf e (now (store .entry))) (now (output .entry)) clock)
+        (pollOutcome r (now (store .exit)) (now (output .exit))) ⌝ }
+{
+    let live = e.live;
+    let step = next_step(live, clock);
+    match step {
+        Step::End(row, cause) => end(e, store, row, cause, clock),
+        Step::Again(row, frame) => {
+            let seq = e.seq;
+            send(e, store, output, row, frame, seq, clock)
+        }
+        Step::First(row) => {
+            let seq = e.seq;
+            let frame = Frame::first(seq, clock);
+            let next = sequence::next(seq);
+            send(e, store, output, row, frame, next, clock)
+        }
+        Step::Quiet => quiet(e, clock),
+    }
+}
+
+// The request in a row ends.
+fn end(e: Endpoint, store: &mut [u8], row: usize, cause: Cause, clock: u64) -> Polled
+    requires { ⌜ Ready e clock (now store) × (row < e .live .count) ⌝ }
+    ensures { λ r. ⌜ ((output : List ℕ) → Does (polledAs (ledgerOf e (now (store .entry)))
+        (stepOf (End row cause) (ledgerOf e (now (store .entry))) clock) output clock)
+        (pollOutcome r (now (store .exit)) output)) ⌝ }
+{
+    let rows = e.live;
+    let q = rows.rows[row];
+    let id = q.id;
+    let live = carry_out(rows, store, Change::End(row, cause));
+    let seq = e.seq;
+    Polled {
+        answer: PollAnswer::Ended(Ending { id, cause }),
+        endpoint: after(e, live, seq, clock),
+    }
+}
+
+// The frame of the request in a row goes out, and is in flight.
+fn send(
+    e: Endpoint,
+    store: &mut [u8],
+    output: &mut [u8],
+    row: usize,
+    frame: Frame,
+    next: Seq,
+    clock: u64,
+) -> Polled
+    requires { ⌜ Ready e clock (now store) × (row < e .live .count) × (total maxLen ≤ length (now output)) ⌝ }
+    ensures { λ r. ⌜ Does (polledAs (ledgerOf e (now (store .entry)))
+        (sentFrom (ledgerOf e (now (store .entry))) clock (frameOf frame) (next .0) row) (now (output .entry)) clock)
+        (pollOutcome r (now (store .exit)) (now (output .exit))) ⌝ }
+{
+    let rows = e.live;
+    let sent = put_frame(rows, store, output, row, frame);
+    let live = carry_out(rows, store, Change::Turn(row, State::InFlight(frame)));
+    Polled {
+        answer: PollAnswer::Sent(sent),
+        endpoint: after(e, live, next, clock),
+    }
+}
+
+// Puts the frame of the request in a row into the output: its fields, ID and data, with the frame's SEQ.
+fn put_frame(live: Requests, store: &[u8], output: &mut [u8], row: usize, frame: Frame) -> usize
+    requires { ⌜ (length (now store) ≡ storeLength) × Fits live × (row < live .count) × (total maxLen ≤ length (now output)) ⌝ }
+    ensures { λ r. ⌜ Put r (frameBytes (at row (liveOf live (now (store .entry)))) (frame .seq .0)) (now (output .entry))
+        (now (output .exit)) ⌝ }
+{
+    let q = live.rows[row];
+    let fields = q.fields;
+    let id = q.id;
+    let len = q.len;
+    let seq = frame.seq;
+    let at = place_of(row);
+    put_command(output, seq, fields, id, &store[at..at + len])
+}
+
+// Nothing is due.
+fn quiet(e: Endpoint, clock: u64) -> Polled
+    requires { ⌜ Sound e clock ⌝ }
+    ensures { λ r. ⌜ ((store output : List ℕ) → Does (polledAs (ledgerOf e store) (step4 (ledgerOf e store) clock) output clock)
+        (pollOutcome r store output)) ⌝ }
+{
+    let live = e.live;
+    let seq = e.seq;
+    let time = time_left(live, clock);
+    let endpoint = after(e, live, seq, clock);
+    match time {
+        Time::In(ms) => Polled {
+            answer: PollAnswer::Quiet(ms),
+            endpoint,
+        },
+        Time::Never => Polled {
+            answer: PollAnswer::NoDeadline,
+            endpoint,
+        },
+    }
+}
+
+// The endpoint after a poll.
+fn after(e: Endpoint, live: Requests, seq: Seq, clock: u64) -> Endpoint
+    ensures { λ r. ⌜ r ≡ record {
+      live = live;
+      reserved = e .reserved;
+      clock = clock;
+      seq = seq;
+      next = e .next;
+      seen = e .seen;
+      held = e .held;
+    } ⌝ }
+{
+    let next = e.next;
+    let seen = e.seen;
+    Endpoint {
+        live,
+        reserved: e.reserved,
+        clock,
+        seq,
+        next,
+        seen,
+        held: e.held,
+    }
+}
