@@ -133,6 +133,6 @@ int main(void)
     no_ids();
     all_ids();
     all_ids_downward();
-    printf("audit from C: %d checks, %d failed\n", checks, failures);
+    printf("compared: audit from C: %d checks, %d failed\n", checks, failures);
     return failures == 0 ? 0 : 1;
 }

@@ -80,6 +80,6 @@ int main(void)
     expect("a null pointer and length 0", fizrahum_checksum(NULL, 0), 0xFFFF);
     sixteen_mebibytes();
     buffer_is_only_read();
-    printf("checksum from C: %d checks, %d failed\n", checks, failures);
+    printf("compared: checksum from C: %d checks, %d failed\n", checks, failures);
     return failures == 0 ? 0 : 1;
 }

@@ -129,6 +129,6 @@ int main(void)
     dropping();
     headers();
     ack_in_a_payload();
-    printf("reader from C: %d checks, %d failed\n", checks, failures);
+    printf("compared: reader from C: %d checks, %d failed\n", checks, failures);
     return failures == 0 ? 0 : 1;
 }

@@ -135,6 +135,6 @@ int main(void)
     refusals();
     greatest_len();
     null_pointers();
-    printf("writer from C: %d checks, %d failed\n", checks, failures);
+    printf("compared: writer from C: %d checks, %d failed\n", checks, failures);
     return failures == 0 ? 0 : 1;
 }

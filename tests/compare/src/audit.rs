@@ -45,7 +45,7 @@ impl Tally {
     pub fn report(&self, what: &str, least: [usize; 4]) {
         let counts = [self.none, self.zero, self.reserved, self.repeated];
         println!(
-            "audit, {what}: {} audits agree: {} find none, {} ID 0, {} a reserved one, {} one equal to an earlier one",
+            "compared: audit, {what}: {} audits agree: {} find none, {} ID 0, {} a reserved one, {} one equal to an earlier one",
             counts.iter().sum::<usize>(),
             counts[0],
             counts[1],

@@ -85,7 +85,7 @@ impl Tally {
             .map(|((_, name), met)| format!("{met} {name}"))
             .collect();
         println!(
-            "line, {what}: {} calls agree: {}; {} items of held bytes alone, {} held counts",
+            "compared: line, {what}: {} calls agree: {}; {} items of held bytes alone, {} held counts",
             self.answers.iter().sum::<usize>(),
             counts.join(", "),
             self.from_held,

@@ -51,7 +51,7 @@ impl Tally {
             .map(|(word, met)| format!("{met} {word}"))
             .collect();
         println!(
-            "lister, {what}: {} listings of {} bytes agree: {}, {} held counts",
+            "compared: lister, {what}: {} listings of {} bytes agree: {}, {} held counts",
             self.listings,
             self.bytes,
             counts.join(", "),

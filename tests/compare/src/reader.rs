@@ -56,7 +56,7 @@ impl Tally {
             .map(|((_, name), met)| format!("{met} {name}"))
             .collect();
         println!(
-            "reader, {what}: {} slices agree: {}",
+            "compared: reader, {what}: {} slices agree: {}",
             self.0.iter().sum::<usize>(),
             counts.join(", ")
         );

@@ -41,7 +41,7 @@ impl Tally {
     pub fn report(&self, what: &str, least: [usize; 3]) {
         let counts = [self.written, self.no_room, self.forbidden];
         println!(
-            "writer, {what}: {} calls agree: {} written, {} refused with 6, {} refused with 7",
+            "compared: writer, {what}: {} calls agree: {} written, {} refused with 6, {} refused with 7",
             counts.iter().sum::<usize>(),
             counts[0],
             counts[1],

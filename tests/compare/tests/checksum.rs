@@ -30,7 +30,7 @@ fn every_input_of_length_0_1_and_2() {
             same(&[first, second]);
         }
     }
-    println!("checksum: all inputs of length 0, 1 and 2 agree");
+    println!("compared: checksum, all inputs of length 0, 1 and 2 agree");
 }
 
 #[test]
@@ -48,7 +48,7 @@ fn many_inputs_of_length_0_to_5000() {
         };
         same(&bytes);
     }
-    println!("checksum: {INPUTS} generated inputs of length 0 to {LONGEST} agree");
+    println!("compared: checksum, {INPUTS} generated inputs of length 0 to {LONGEST} agree");
 }
 
 #[test]
@@ -60,12 +60,14 @@ fn a_part_that_starts_anywhere() {
             same(&bytes[start..end]);
         }
     }
+    println!("compared: checksum, all parts of {} bytes agree", bytes.len());
 }
 
 #[test]
 fn sixteen_mebibytes() {
     let mut random = Random::seeded("checksum of 16 MiB");
     same(&random.bytes(16 << 20));
+    println!("compared: checksum, 16 MiB agree");
 }
 
 #[test]

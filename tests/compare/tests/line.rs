@@ -56,7 +56,7 @@ fn captures_cut_at_random() {
         }
     }
     println!(
-        "line: {} captures in {pieces} pieces, {empty} of them empty",
+        "compared: line, {} captures in {pieces} pieces, {empty} of them empty",
         captures.len()
     );
     assert!(empty >= 1_000, "too few empty pieces");
@@ -123,5 +123,5 @@ fn refusals() {
             }
         }
     }
-    println!("line: {calls} calls with another array or too great a count are refused");
+    println!("compared: line, {calls} calls with another array or too great a count are refused");
 }

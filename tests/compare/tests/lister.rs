@@ -27,7 +27,7 @@ fn generated_captures() {
         for capture in &captures {
             tally.agree(capture, &list_file("generated.capture", capture));
         }
-        println!("lister, {what}: {} captures agree", captures.len());
+        println!("compared: lister, {what}: {} captures agree", captures.len());
     }
     // the last number is every count that a line can hold
     let least = [5_000, 5_000, 5_000, 5_000, 10_000, 2_000, 1_000];
@@ -68,7 +68,7 @@ fn in_pieces() {
         }
     }
     println!(
-        "lister: {} captures are listed alike whole and in pieces of {SIZES:?}",
+        "compared: lister, {} captures are listed alike whole and in pieces of {SIZES:?}",
         captures.len()
     );
 }

@@ -26,7 +26,7 @@ fn write_then_read() {
         assert_eq!(found, whole(Message::new(kind, seq, &payload), 0));
         assert_eq!(buffer[place + found.payload..][..found.len], payload);
     }
-    println!("round trip: {MESSAGES} messages written and read again");
+    println!("compared: round trip, {MESSAGES} messages written and read again");
 }
 
 #[test]
@@ -62,6 +62,6 @@ fn read_then_write() {
             same += 1;
         }
     }
-    println!("round trip: {same} messages read and written again with the same bytes, {nak} NAKs with SEQ refused");
+    println!("compared: round trip, {same} messages read and written again with the same bytes, {nak} NAKs with SEQ refused");
     assert!(same >= 20_000 && nak >= 5_000);
 }

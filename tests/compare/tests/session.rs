@@ -29,14 +29,14 @@ fn generated_scripts() {
             coverage.script(&scene);
             scripts += 1;
         }
-        println!("session, {}: {} scripts agree", kind.what, kind.count);
+        println!("compared: session, {}: {} scripts agree", kind.what, kind.count);
     }
     for (r, waiting) in long::KINDS {
         let scene = long::all_ids(r, waiting);
         let what = format!("all IDs from {} on, {waiting} waiting", r + 1);
         agree(&what, &scene, &run(&what, &scene));
         coverage.script(&scene);
-        println!("session, {what}: a script of {} calls agrees", scene.lines.len());
+        println!("compared: session, {what}: a script of {} calls agrees", scene.lines.len());
     }
     assert!(scripts >= 3_000, "{scripts} scripts");
     coverage.report(&format!(
@@ -56,5 +56,5 @@ fn in_small_writes() {
         }
         agree(kind.what, &scene, &SESSION.run_in_single_bytes(script.as_bytes()));
     }
-    println!("session: a script of each kind agrees in small writes");
+    println!("compared: session, a script of each kind agrees in small writes");
 }

@@ -117,7 +117,7 @@ fn lines_of_another_form() {
     for (line, phrase) in LINES {
         fails_behind(line, phrase);
     }
-    println!("session: {} malformed lines are told", LINES.len());
+    println!("compared: session, {} malformed lines are told", LINES.len());
 }
 
 #[test]

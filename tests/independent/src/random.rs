@@ -10,7 +10,7 @@ pub fn seed(purpose: &str) -> u64 {
         Ok(text) => text.parse().expect("SEED is a decimal number"),
         Err(_) => 20_261_115,
     };
-    println!("{purpose}: seed {seed}");
+    println!("seed: {purpose}: {seed}");
     seed
 }
 

@@ -166,7 +166,7 @@ impl Coverage {
     pub fn report(&self, what: &str) {
         let counts = self.counts.iter().map(|(name, count)| format!("    {name}: {count}"));
         let counts = counts.collect::<Vec<_>>().join("\n");
-        println!("session, {what}: {} calls agree\n{counts}", self.calls);
+        println!("compared: session, {what}: {} calls agree\n{counts}", self.calls);
         for name in WANTED {
             assert!(self.counts.contains_key(name), "never met: {name}");
         }

@@ -158,7 +158,7 @@ impl Tally {
         let counts = counts.collect::<Vec<_>>().join("\n");
         let longest = self.longest.expect("a request has ended under the rule");
         println!(
-            "{purpose}: {lists} lists\n{counts}\n    rule: longest time from acceptance to ending, in ms: {longest}"
+            "compared: {purpose}: {lists} lists keep every clause\n{counts}\n    rule: longest time from acceptance to ending, in ms: {longest}"
         );
         for what in WANTED {
             assert!(self.met(what), "never met: {what}");
