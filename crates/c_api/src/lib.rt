@@ -30,7 +30,7 @@ pub extern "C" fn fizrahum_write(
 ) -> usize
     ensures { λ r. ⌜ WroteNumber r place kind seq (now (payload .entry)) (now (buffer .entry)) (now (buffer .exit)) ⌝ }
 {
-    let written = message::writer::write(buffer, place, kind, Seq(seq), payload);
+    let written = message_writer::write(buffer, place, kind, Seq(seq), payload);
     numbers::of_written(written)
 }
 
@@ -48,7 +48,7 @@ pub extern "C" fn fizrahum_read(
     ensures { λ r. ⌜ numbers r (now (kind .exit)) (now (seq .exit)) (now (payload .exit)) (now (len .exit)) (now (dropped .exit))
         (now (removed .exit)) ≡ numbersOf (scan (now (bytes .entry))) ⌝ }
 {
-    let answer = numbers::of_reading(message::reader::read(bytes));
+    let answer = numbers::of_reading(message_reader::read(bytes));
     *kind = answer.kind;
     *seq = answer.seq;
     *payload = answer.payload;

@@ -7,10 +7,10 @@ ghost use Rattle.audit.specs.Promises.{positionOf};
 ghost use Rattle.c_api.specs.Numbers.{numberOf, numbers, numbersOf, placeOf, positionIn};
 ghost use Rattle.c_api.specs.Code.{numbersIn};
 use audit::Finding;
+use message::Item;
+use message::Reading;
+use message::Written;
 use message::header::HEADER_LENGTH;
-use message::reader::Item;
-use message::reader::Reading;
-use message::writer::Written;
 
 // What `fizrahum_read` answers.
 pub(crate) struct Numbers {

@@ -13,7 +13,7 @@ use Rattle.message.proofs.Headers.{length-message}
 use Rattle.message.specs.Bytes.{message, headerLength, payloadAt, total, maxLen, ack, nak, dataSeq, allowed, writable}
 use Rattle.message.specs.Promises.{Wrote}
 use Rattle.message.specs.Writing.{after, placed}
-use Rattle.message.specs.declared.writer.Written.{Written}
+use Rattle.message.specs.declared.Written.{Written}
 use Rattle.command.proofs.Laws.{length-payload}
 use Rattle.command.specs.Payload.{Fields, headLength, maxData, payload}
 use Rattle.command.specs.Promises as command

@@ -26,7 +26,7 @@ pub fn put_command(output: &mut [u8], seq: Seq, fields: Fields, id: RequestId, d
         (now (output .entry)) (now (output .exit)) ⌝ }
 {
     let len = command::writer::write(&mut output[HEADER_LENGTH..], fields, id, data);
-    message::writer::write_around(output, 0, DATA_SEQ, seq, len);
+    message_writer::write_around(output, 0, DATA_SEQ, seq, len);
     total_length(len)
 }
 
@@ -36,7 +36,7 @@ pub fn put_ack(reply: &mut [u8], seq: Seq) -> usize
     requires { ⌜ total 0 ≤ length (now reply) ⌝ }
     ensures { λ r. ⌜ Put r (message ack (seq .0) []) (now (reply .entry)) (now (reply .exit)) ⌝ }
 {
-    message::writer::write(reply, 0, ACK, seq, b"");
+    message_writer::write(reply, 0, ACK, seq, b"");
     total_length(0)
 }
 
@@ -46,6 +46,6 @@ pub fn put_nak(reply: &mut [u8]) -> usize
     requires { ⌜ total 0 ≤ length (now reply) ⌝ }
     ensures { λ r. ⌜ Put r (message nak 0 []) (now (reply .entry)) (now (reply .exit)) ⌝ }
 {
-    message::writer::write(reply, 0, NAK, Seq(0), b"");
+    message_writer::write(reply, 0, NAK, Seq(0), b"");
     total_length(0)
 }

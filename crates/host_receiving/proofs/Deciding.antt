@@ -11,9 +11,9 @@ use Rattle.message.specs.Bytes.{maxLen}
 use Rattle.message.specs.Promises.{itemOf}
 use Rattle.message.specs.Writing.{placed}
 use Rattle.message.specs.declared.Seq.{Seq}
-use Rattle.message.specs.declared.reader.Item.{Item}
-use Rattle.message.specs.declared.reader.Item.the-variants.{DamagedHeader, Forbidden, DamagedPayload, Message}
-use Rattle.message.proofs.reader.Item.{the-type}
+use Rattle.message.specs.declared.Item.{Item}
+use Rattle.message.specs.declared.Item.the-variants.{DamagedHeader, Forbidden, DamagedPayload, Message}
+use Rattle.message.proofs.Item.{the-type}
 use Rattle.line.specs.Receiving as line
 use Rattle.line.specs.Receiving.{heldMax}
 use Rattle.line.specs.Promises.{answerOf, partOf}

@@ -43,9 +43,9 @@ use line::receiving::settle;
 use link::repeats::Seen;
 use live::Change;
 use live::changes::carry_out;
+use message::Item;
 use message::Seq;
 use message::header::DATA_SEQ;
-use message::reader::Item;
 use refusals::Check;
 use refusals::check_receive;
 

@@ -10,8 +10,8 @@ use Rattle.message.specs.Bytes.{headerLength}
 use Rattle.message.specs.Items.{Scan, undecided, decided, dropped, lenIn, typeIn, scan, payloadOf}
 use Rattle.message.specs.Promises.{itemOf}
 use Rattle.message.specs.Writing.{placed}
-use Rattle.message.specs.declared.reader.Item.{Item}
-use Rattle.message.specs.declared.reader.Item.the-variants.{DamagedHeader, Forbidden, DamagedPayload, Message}
+use Rattle.message.specs.declared.Item.{Item}
+use Rattle.message.specs.declared.Item.the-variants.{DamagedHeader, Forbidden, DamagedPayload, Message}
 use Rattle.message.proofs.Buffer.{through-placed}
 use Rattle.message.proofs.Dropping.{dropped-within}
 use Rattle.message.proofs.Found.{scan-within, message-at}

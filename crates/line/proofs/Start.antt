@@ -12,8 +12,8 @@ use Rattle.message.specs.Bytes.{headerLength, syn2}
 use Rattle.message.specs.Items.{Scan, undecided, decided, stands, dropped, scan, payloadOf}
 use Rattle.message.specs.Promises.{itemOf}
 use Rattle.message.specs.Writing.{placed}
-use Rattle.message.specs.declared.reader.Item.{Item}
-use Rattle.message.specs.declared.reader.Item.the-variants.{DamagedHeader, Forbidden, DamagedPayload, Message}
+use Rattle.message.specs.declared.Item.{Item}
+use Rattle.message.specs.declared.Item.the-variants.{DamagedHeader, Forbidden, DamagedPayload, Message}
 use Rattle.message.proofs.Dropping.{dropped-here, stands-left}
 use Rattle.message.proofs.Found.{message-at}
 use Rattle.message.proofs.Headers.{both}

@@ -12,7 +12,7 @@ use Rattle.message.specs.Bytes.{headerLength, total, fromLe16}
 use Rattle.message.specs.Items.{Item, undecided, decided, typeIn, lenIn, seqIn, payloadIn, payloadChecksumIn, scan, payloadOf}
 use Rattle.message.specs.Writing.{placed}
 use Rattle.message.specs.declared.Seq.{Seq}
-use Rattle.message.specs.declared.reader.Item.the-variants.{DamagedPayload, Message}
+use Rattle.message.specs.declared.Item.the-variants.{DamagedPayload, Message}
 use Rattle.message.proofs.Buffer.{front, lentFrom, tail}
 use Rattle.message.proofs.Headers.{allowed-short}
 use Rattle.message.proofs.More.{len-more, type-more, seq-more}

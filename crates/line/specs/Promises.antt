@@ -4,7 +4,7 @@ use mathlib.Core.List.{List, []}
 use mathlib.Core.Path.{_≡_}
 use lib.ListN.{length, take, drop}
 use Rattle.message.specs.Promises.{itemOf}
-use Rattle.message.specs.declared.reader.Item.the-variants.{DamagedHeader, Forbidden, DamagedPayload, Message}
+use Rattle.message.specs.declared.Item.the-variants.{DamagedHeader, Forbidden, DamagedPayload, Message}
 use Rattle.line.specs.Receiving.{heldMax, receive}
 use Rattle.line.specs.Receiving as spec
 use Rattle.line.specs.declared.Answer.{Answer}

@@ -16,13 +16,13 @@ use crate::Answer;
 use crate::Place;
 use crate::joining::join;
 use crate::store::put_at;
+use message::Item;
+use message::Reading;
 use message::header::HEADER_LENGTH;
 use message::header::SYN;
 use message::header::total_length;
-use message::reader::Item;
-use message::reader::Reading;
-use message::reader::len_in;
-use message::reader::read;
+use message_reader::len_in;
+use message_reader::read;
 
 // What was decided: the answer, how many new bytes it takes, the part of the array that is to be held, and where the payload of a
 // message begins. The payload stays where it stands until `settle` puts that part at the front.

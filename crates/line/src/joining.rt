@@ -18,15 +18,15 @@ use crate::decision::Decision;
 use crate::decision::all_held;
 use crate::store::move_to_front;
 use crate::store::put_at;
+use message::Item;
+use message::Reading;
 use message::Seq;
 use message::header::HEADER_LENGTH;
 use message::header::SYN_LENGTH;
 use message::header::total_length;
-use message::reader::Item;
-use message::reader::Reading;
-use message::reader::len_in;
-use message::reader::payload_is_sound;
-use message::reader::read;
+use message_reader::len_in;
+use message_reader::payload_is_sound;
+use message_reader::read;
 
 // Where TYPE and SEQ stand in a message whose SYN is gone.
 const TYPE_BEHIND_SYN: usize = 0;

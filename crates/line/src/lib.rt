@@ -5,7 +5,7 @@ pub mod payload; // the payload of a message
 pub mod receiving; // the same with the held bytes at the front
 mod store; // bytes moved within the lent array
 
-use message::reader::Item;
+use message::Item;
 
 // The most bytes that are held between calls ("At most 265 bytes are held").
 pub const HELD_MAX: usize = 265;

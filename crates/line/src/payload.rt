@@ -5,7 +5,7 @@ ghost use Rattle.line.specs.Promises.{partOf};
 use crate::Answer;
 use crate::Place;
 use crate::decision::Decision;
-use message::reader::Item;
+use message::Item;
 
 // The payload of what `decide` found, as a part of the array that it left or of the new bytes, and no copy: empty for all but a
 // message.

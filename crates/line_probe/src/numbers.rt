@@ -7,7 +7,7 @@ ghost use Rattle.line_probe.specs.Numbers.{numbers, numbersOf};
 ghost use Rattle.line_probe.specs.Code.{numbersIn};
 use line::Answer;
 use line::receiving::Received;
-use message::reader::Item;
+use message::Item;
 
 // What the probe answers.
 pub(crate) struct Numbers {

@@ -5,8 +5,8 @@ use mathlib.Core.Path.{_≡_, sym, ap, _∙_}
 use native.Mathlib.Omega.{arith}
 use lib.ListN.{length, take, length-take}
 use Rattle.message.specs.Promises.{itemOf}
-use Rattle.message.specs.declared.reader.Item.{Item}
-use Rattle.message.specs.declared.reader.Item.the-variants.{DamagedHeader, Forbidden, DamagedPayload, Message}
+use Rattle.message.specs.declared.Item.{Item}
+use Rattle.message.specs.declared.Item.the-variants.{DamagedHeader, Forbidden, DamagedPayload, Message}
 use Rattle.line.specs.Promises.{answerOf, Receives}
 use Rattle.line.specs.Receiving.{item}
 use Rattle.line.specs.Receiving as spec

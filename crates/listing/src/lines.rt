@@ -6,10 +6,10 @@ ghost use lib.ListN.{length, take};
 ghost use Rattle.message.specs.Items.{message as frame};
 ghost use Rattle.message.specs.Promises.{itemOf};
 ghost use Rattle.listing.specs.Text.{digit as glyph, decimalLimit, decimal, word, lineOf, endOf, lineRoom, lenOf};
+use message::Item;
 use message::header::ACK;
 use message::header::DATA_SEQ;
 use message::header::NAK;
-use message::reader::Item;
 
 // Room for a line, its end included, in bytes.
 pub(crate) const LINE_ROOM: usize = 16;

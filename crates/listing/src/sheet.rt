@@ -7,7 +7,7 @@ use crate::lines::LINE_ROOM;
 use crate::lines::put_end;
 use crate::lines::put_line;
 use libc::STDOUT_FILENO;
-use message::reader::Item;
+use message::Item;
 
 // How many bytes wait, and whether every write was taken whole.
 pub(crate) struct Sheet {

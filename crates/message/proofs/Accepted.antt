@@ -13,10 +13,10 @@ use types.Run.{OneOf}
 use Rattle.message.specs.Bytes.{message, maxLen, total, writable}
 use Rattle.message.specs.Writing.{accepted, refused, written, placed, after}
 use Rattle.message.specs.Promises.{answerOf, Wrote}
-use Rattle.message.specs.declared.writer.Written.{Written}
-use Rattle.message.specs.declared.writer.Written.the-variants.{Length, Forbidden, NoRoom}
+use Rattle.message.specs.declared.Written.{Written}
+use Rattle.message.specs.declared.Written.the-variants.{Length, Forbidden, NoRoom}
 use Rattle.message.proofs.Headers.{writable-short}
-use Rattle.message.proofs.writer.Written.{the-type}
+use Rattle.message.proofs.Written.{the-type}
 
 -- an accepted message passed both tests, and the length is its own
 pub record Passed (n size place type seq len : ℕ) : Type 0 where

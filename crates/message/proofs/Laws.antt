@@ -8,9 +8,9 @@ use Rattle.message.specs.Bytes.{payloadAt, nak}
 use Rattle.message.specs.Items.{Item, message, decided, scan, partWith, payloadOf}
 use Rattle.message.specs.Writing.{accepted, refused, written, placed}
 use Rattle.message.specs.Promises.{answerOf, Wrote, scanOf}
-use Rattle.message.specs.declared.reader.Reading.{Reading}
-use Rattle.message.specs.declared.writer.Written.{Written}
-use Rattle.message.specs.declared.writer.Written.the-variants.{Length}
+use Rattle.message.specs.declared.Reading.{Reading}
+use Rattle.message.specs.declared.Written.{Written}
+use Rattle.message.specs.declared.Written.the-variants.{Length}
 use Rattle.message.proofs.Accepted.{says-7}
 use Rattle.message.proofs.Headers.{nak-not-writable}
 use Rattle.message.proofs.More as more

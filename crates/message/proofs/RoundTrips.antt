@@ -11,8 +11,8 @@ use Rattle.message.specs.Bytes.{payloadAt, nak, total, allowed}
 use Rattle.message.specs.Items.{message, decided, scan, payloadOf}
 use Rattle.message.specs.Writing.{accepted, placed}
 use Rattle.message.specs.Promises.{answerOf, Wrote}
-use Rattle.message.specs.declared.writer.Written.{Written}
-use Rattle.message.specs.declared.writer.Written.the-variants.{Length}
+use Rattle.message.specs.declared.Written.{Written}
+use Rattle.message.specs.declared.Written.the-variants.{Length}
 use Rattle.message.proofs.Accepted.{passed, says-length}
 use Rattle.message.proofs.Buffer.{from-placed}
 use Rattle.message.proofs.Found.{message-at}

@@ -7,12 +7,12 @@ use Rattle.message.specs.Bytes.{message}
 use Rattle.message.specs.Items as items
 use Rattle.message.specs.Items.{Scan, undecided, decided}
 use Rattle.message.specs.Writing.{forbiddenHeader, noRoom, Answer, accepted, refused, written, after}
-use Rattle.message.specs.declared.writer.Written.{Written}
-use Rattle.message.specs.declared.writer.Written.the-variants.{Length, Forbidden, NoRoom}
-use Rattle.message.specs.declared.reader.Item.{Item}
-use Rattle.message.specs.declared.reader.Item.the-variants as item
-use Rattle.message.specs.declared.reader.Reading.{Reading}
-use Rattle.message.specs.declared.reader.Reading.the-variants.{Undecided, Decided}
+use Rattle.message.specs.declared.Written.{Written}
+use Rattle.message.specs.declared.Written.the-variants.{Length, Forbidden, NoRoom}
+use Rattle.message.specs.declared.Item.{Item}
+use Rattle.message.specs.declared.Item.the-variants as item
+use Rattle.message.specs.declared.Reading.{Reading}
+use Rattle.message.specs.declared.Reading.the-variants.{Undecided, Decided}
 
 -- the writer's answers
 abbrev pub answerOf : Written → Answer

@@ -4,6 +4,7 @@ ghost use mathlib.Core.Bool.{_||_};
 ghost use Prim.Native.Nat.{_^_, _<_};
 ghost use lib.Dec.{eqb};
 ghost use Rattle.message.specs.Bytes.{total, allowed, writable};
+ghost use Rattle.message.specs.Items.{stands};
 use crate::Seq;
 
 // SYN: the two bytes that every message opens with.
@@ -26,20 +27,38 @@ pub const MAX_LEN: usize = 256;
 // Where TYPE, LEN, SEQ and the header's checksum stand in a message.
 pub const TYPE_PLACE: usize = 2;
 
-pub(crate) const LEN_PLACE: usize = 3;
+pub const LEN_PLACE: usize = 3;
 
 pub const SEQ_PLACE: usize = 5;
 
-pub(crate) const CHECKSUM_PLACE: usize = 6;
+pub const CHECKSUM_PLACE: usize = 6;
 
 // TYPE, LEN and SEQ, in bytes.
-pub(crate) const FIELDS_LENGTH: usize = 4;
+pub const FIELDS_LENGTH: usize = 4;
 
 // SYN, those fields and their checksum, in bytes.
 pub const HEADER_LENGTH: usize = 8;
 
 // A message beside its payload, in bytes: the header and the payload's checksum, which is there also when LEN is 0.
 pub const OVERHEAD: usize = 10;
+
+// Whether SYN stands in front, or what may become one: its first byte at the end. For the reader, which drops bytes until it does.
+// Ruled out: no to a lone first byte at the end, and yes to SYN with its two bytes exchanged.
+pub fn syn_stands(rest: &[u8]) -> bool
+    ensures { λ r. ⌜ r ≡ stands (now (rest .entry)) ⌝ }
+{
+    let syn = SYN;
+    if rest.len() == 0 {
+        return false;
+    }
+    if rest[0] != syn[0] {
+        return false;
+    }
+    if rest.len() == 1 {
+        return true;
+    }
+    rest[1] == syn[1]
+}
 
 // The bytes of a message with this LEN. Asks for a LEN of 16 bits, so that the sum fits; the callers have read one.
 pub fn total_length(len: usize) -> usize

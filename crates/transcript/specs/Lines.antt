@@ -3,8 +3,8 @@ use Prim.Native.Nat.{ℕ, _+_}
 use mathlib.Core.Bool.{Bool, true, false}
 use mathlib.Core.List.{List, _++_}
 use lib.ListN.{length}
-use Rattle.message.specs.declared.reader.Item.{Item}
-use Rattle.message.specs.declared.reader.Item.the-variants.{DamagedHeader, Forbidden, DamagedPayload, Message}
+use Rattle.message.specs.declared.Item.{Item}
+use Rattle.message.specs.declared.Item.the-variants.{DamagedHeader, Forbidden, DamagedPayload, Message}
 use Rattle.line.specs.declared.Answer.{Answer}
 use Rattle.line.specs.declared.Answer.the-variants.{More, One}
 use Rattle.command.specs.declared.Fields.{Fields}

@@ -16,8 +16,8 @@ use ledger::Command;
 use ledger::Ending;
 use ledger::Word;
 use line::Answer;
+use message::Item;
 use message::Seq;
-use message::reader::Item;
 
 // The item, or `more`.
 pub(crate) fn put_item(out: &mut [u8], at: usize, answer: Answer) -> usize

@@ -7,7 +7,7 @@ use borrow.Author.Needs.{needs}
 use Rattle.message.specs.Bytes.{message}
 use Rattle.message.specs.Promises.{answerOf, Wrote}
 use Rattle.message.specs.Writing.{Answer, after}
-use Rattle.message.specs.declared.writer.Written.{Written}
+use Rattle.message.specs.declared.Written.{Written}
 use Rattle.c_api.specs.Numbers.{numberOf, WroteNumber}
 use Rattle.c_api.proofs.fizrahum_write.Statement.{statement}
 use Rattle.c_api.proofs.fizrahum_write.Tie as tie

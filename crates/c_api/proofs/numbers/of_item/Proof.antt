@@ -5,7 +5,7 @@ use native.Mathlib.Omega.{arith}
 use borrow.Author.Needs.{needs}
 use Rattle.message.specs.Items.{decided}
 use Rattle.message.specs.Promises.{itemOf}
-use Rattle.message.specs.declared.reader.Item.{Item}
+use Rattle.message.specs.declared.Item.{Item}
 use Rattle.c_api.specs.Numbers.{Numbers, numbersOf}
 use Rattle.c_api.proofs.numbers.of_item.Statement.{statement}
 use Rattle.c_api.proofs.numbers.of_item.Tie as tie

@@ -2,7 +2,7 @@
 use mathlib.Core.Path.{_≡_}
 use borrow.Author.Needs.{needs}
 use Rattle.message.specs.Promises.{scanOf}
-use Rattle.message.specs.declared.reader.Reading.{Reading}
+use Rattle.message.specs.declared.Reading.{Reading}
 use Rattle.c_api.specs.Numbers.{Numbers, numbersOf}
 use Rattle.c_api.proofs.numbers.of_reading.Statement.{statement}
 use Rattle.c_api.proofs.numbers.of_reading.Tie as tie

@@ -8,9 +8,9 @@ use borrow.Author.Needs.{needs}
 use denote.Enum.Declared.{tagOf}
 use denote.Ref.{now}
 use types.Run.{OneOf}
-use Rattle.message.specs.declared.reader.Item.{Item}
-use Rattle.message.specs.declared.reader.Item.the-variants.{DamagedHeader, Forbidden, DamagedPayload, Message}
-use Rattle.message.proofs.reader.Item.{the-type}
+use Rattle.message.specs.declared.Item.{Item}
+use Rattle.message.specs.declared.Item.the-variants.{DamagedHeader, Forbidden, DamagedPayload, Message}
+use Rattle.message.proofs.Item.{the-type}
 use Rattle.line.specs.Promises.{partOf}
 use Rattle.line.specs.declared.Answer.the-variants.{One}
 use Rattle.line.specs.declared.Place.{Place}
