@@ -8,7 +8,7 @@ use lib.Seq.{take-take, drop-drop, take-append-le, take-at, drop-at, length-take
 use Rattle.message.specs.Writing.{placed}
 use Rattle.line.specs.Receiving.{heldMax}
 use Rattle.line.specs.Promises.{Decides}
-use Rattle.line.specs.declared.decision.Decision.{Decision}
+use Rattle.line.specs.declared.Decision.{Decision}
 use Rattle.command.specs.Payload.{maxData}
 use Rattle.endpoint.specs.Endpoint.{storeLength, roomAt, requestsFrom, rowsOf, liveOf}
 use Rattle.endpoint.specs.declared.Request.{Request}

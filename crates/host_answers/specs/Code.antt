@@ -8,7 +8,7 @@ use Rattle.message.specs.Items as items
 use Rattle.message.specs.Items.{damagedHeader, forbidden, damagedPayload}
 use Rattle.line.specs.Receiving.{heldMax}
 use Rattle.line.specs.Promises.{Decides}
-use Rattle.line.specs.declared.decision.Decision.{Decision}
+use Rattle.line.specs.declared.Decision.{Decision}
 use Rattle.ledger.specs.Answers.{Done}
 use Rattle.ledger.specs.Receiving.{nakMessage}
 use Rattle.endpoint.specs.Endpoint.{storeLength, ledgerOf}

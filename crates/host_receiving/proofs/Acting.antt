@@ -7,7 +7,7 @@ use lib.ListN.{length, take, drop}
 use Rattle.message.specs.Writing.{placed}
 use Rattle.line.specs.Receiving as line
 use Rattle.line.specs.Receiving.{heldMax}
-use Rattle.line.specs.declared.decision.Decision.{Decision}
+use Rattle.line.specs.declared.Decision.{Decision}
 use Rattle.ledger.specs.Receiving.{receivedAs}
 use Rattle.endpoint.specs.Endpoint.{ledgerOf, liveOf}
 use Rattle.endpoint.specs.declared.Endpoint.{Endpoint}

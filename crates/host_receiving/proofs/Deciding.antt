@@ -21,7 +21,7 @@ use Rattle.line.specs.declared.Answer.{Answer}
 use Rattle.line.specs.declared.Answer.the-variants.{More, One}
 use Rattle.line.specs.declared.Place.{Place}
 use Rattle.line.specs.declared.Place.the-variants.{Held, New}
-use Rattle.line.specs.declared.decision.Decision.{Decision}
+use Rattle.line.specs.declared.Decision.{Decision}
 use Rattle.line.proofs.Laws.{message-short}
 use Rattle.ledger.specs.Answers.{Done}
 use Rattle.ledger.specs.Receiving as ledger

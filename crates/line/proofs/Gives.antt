@@ -21,7 +21,7 @@ use Rattle.line.specs.Promises.{Decides, partOf}
 use Rattle.line.specs.Receiving.{heldMax, decides, taken, receivedFrom, receive}
 use Rattle.line.specs.declared.Answer.the-variants.{More, One}
 use Rattle.line.specs.declared.Place.the-variants.{Held, New}
-use Rattle.line.specs.declared.decision.Decision.{Decision}
+use Rattle.line.specs.declared.Decision.{Decision}
 use Rattle.line.proofs.Moving.{drop-take}
 use Rattle.line.proofs.Reach.{reached, reach-within}
 use Rattle.line.proofs.Taking.{at-more, at-new, taken-new}

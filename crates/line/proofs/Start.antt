@@ -23,7 +23,7 @@ use Rattle.line.specs.Promises.{Decides, partOf}
 use Rattle.line.specs.Receiving.{heldMax, receive}
 use Rattle.line.specs.declared.Answer.the-variants.{One}
 use Rattle.line.specs.declared.Place.{Place}
-use Rattle.line.specs.declared.decision.Decision.{Decision}
+use Rattle.line.specs.declared.Decision.{Decision}
 use Rattle.line.proofs.Gives.{undecided-left, front-placed}
 use Rattle.line.proofs.Reach.{reach-within}
 use Rattle.line.proofs.Taking.{at-item, receive-lone}

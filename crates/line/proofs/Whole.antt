@@ -20,7 +20,7 @@ use Rattle.line.specs.Promises.{Decides}
 use Rattle.line.specs.Receiving.{heldMax, receivedFrom, receive}
 use Rattle.line.specs.declared.Answer.the-variants.{One}
 use Rattle.line.specs.declared.Place.the-variants.{Held}
-use Rattle.line.specs.declared.decision.Decision.{Decision}
+use Rattle.line.specs.declared.Decision.{Decision}
 use Rattle.line.proofs.Gives.{undecided-left}
 use Rattle.line.proofs.Reach.{reach}
 use Rattle.line.proofs.Taking.{at-item}

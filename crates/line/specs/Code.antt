@@ -1,4 +1,4 @@
--- Tests of the code that are no words of document 01; the functions that others call do not cite them.
+-- Tests of the code that are no words of document 01. Of what other crates call only `line_joining::join` cites them.
 use Prim.Native.Nat.{ℕ}
 use mathlib.Core.Bool.{Bool, not, _&&_}
 use mathlib.Core.List.{List}

@@ -11,8 +11,8 @@ use Rattle.line.specs.declared.Answer.{Answer}
 use Rattle.line.specs.declared.Answer.the-variants.{More, One}
 use Rattle.line.specs.declared.Place.{Place}
 use Rattle.line.specs.declared.Place.the-variants.{Held, New}
-use Rattle.line.specs.declared.decision.Decision.{Decision}
-use Rattle.line.specs.declared.receiving.Received.{Received}
+use Rattle.line.specs.declared.Decision.{Decision}
+use Rattle.line.specs.declared.Received.{Received}
 
 -- the answers
 abbrev pub answerOf : Answer → spec.Answer

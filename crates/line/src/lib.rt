@@ -1,9 +1,7 @@
-// Held bytes and new ones become at most one item a call (document 01, "How bytes become items").
-pub mod decision; // which item, and what is held then
-mod joining; // a message of which a part is held
+// Held bytes and new ones become at most one item a call (document 01, "How bytes become items"): what a call gives, with its laws,
+// and what the crates above share. `line_joining` and `line_deciding` find the item, `line_receiving` has the calls.
 pub mod payload; // the payload of a message
-pub mod receiving; // the same with the held bytes at the front
-mod store; // bytes moved within the lent array
+pub mod store; // bytes moved within the lent array
 
 use message::Item;
 
@@ -20,4 +18,21 @@ pub enum Answer {
 pub enum Place {
     Held(usize),
     New(usize),
+}
+
+// What was decided: the answer, how many new bytes it takes, the part of the array that is to be held, and where the payload of a
+// message begins. The payload stays where it stands until `settle` puts that part at the front.
+pub struct Decision {
+    pub answer: Answer,
+    pub taken: usize,
+    pub start: usize,
+    pub count: usize,
+    pub payload: Place,
+}
+
+// The item or *more*, the new bytes taken, and how many bytes are held now.
+pub struct Received {
+    pub answer: Answer,
+    pub taken: usize,
+    pub count: usize,
 }

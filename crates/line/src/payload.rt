@@ -3,8 +3,8 @@ ghost use mathlib.Core.Path.{_≡_};
 ghost use lib.ListN.{take, drop};
 ghost use Rattle.line.specs.Promises.{partOf};
 use crate::Answer;
+use crate::Decision;
 use crate::Place;
-use crate::decision::Decision;
 use message::Item;
 
 // The payload of what `decide` found, as a part of the array that it left or of the new bytes, and no copy: empty for all but a

@@ -7,7 +7,7 @@ use crate::numbers::Numbers;
 use crate::numbers::of_received;
 use crate::numbers::refused;
 use line::HELD_MAX;
-use line::receiving::receive_in;
+use line_receiving::receive_in;
 
 // The next item of the array's first count bytes and of the new ones. Answers 0 for *more*, the number of the rule that decided,
 // or 1 where the array is not of HELD_MAX bytes or count is over that, which leaves the array. Sets all five numbers.

@@ -6,7 +6,7 @@ ghost use Rattle.line.specs.Promises.{answerOf};
 ghost use Rattle.line_probe.specs.Numbers.{numbers, numbersOf};
 ghost use Rattle.line_probe.specs.Code.{numbersIn};
 use line::Answer;
-use line::receiving::Received;
+use line::Received;
 use message::Item;
 
 // What the probe answers.

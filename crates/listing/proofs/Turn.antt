@@ -11,7 +11,7 @@ use Rattle.line.specs.Promises.{answerOf, Receives}
 use Rattle.line.specs.Receiving.{item}
 use Rattle.line.specs.Receiving as spec
 use Rattle.line.specs.declared.Answer.the-variants.{One}
-use Rattle.line.specs.declared.receiving.Received.{Received}
+use Rattle.line.specs.declared.Received.{Received}
 use Rattle.line.proofs.Laws.{item-removes, message-short}
 use Rattle.listing.specs.Text.{decimalLimit, lenOf}
 

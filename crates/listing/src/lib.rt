@@ -13,7 +13,7 @@ use libc::STDIN_FILENO;
 use libc::STDOUT_FILENO;
 use line::Answer;
 use line::HELD_MAX;
-use line::receiving::receive;
+use line_receiving::receive;
 
 // How far the listing is: the bytes that the line holds, the bytes of lines that wait, and what comes next.
 struct Listing {

@@ -11,7 +11,7 @@ use borrow.Author.Tests.{eq-eqb, ne-eqb, le-leb, lt-leb}
 use denote.Ref.{now}
 use Rattle.line.specs.Promises.{answerOf, Receives}
 use Rattle.line.specs.Receiving.{heldMax}
-use Rattle.line.specs.declared.receiving.Received.{Received}
+use Rattle.line.specs.declared.Received.{Received}
 use Rattle.line_probe.specs.Numbers.{Numbers, numbers, numbersOf, usable, Probed}
 use Rattle.line_probe.proofs.probe.Statement.{statement}
 use Rattle.line_probe.proofs.probe.Tie as tie
