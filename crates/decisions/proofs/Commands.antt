@@ -25,9 +25,9 @@ use Rattle.ledger.specs.declared.Command.{Command}
 use Rattle.ledger.specs.declared.Word.the-variants as word
 use Rattle.endpoint.specs.Endpoint.{liveOf}
 use Rattle.endpoint.specs.declared.Requests.{Requests}
-use Rattle.live.specs.declared.Change.the-variants as change
-use Rattle.live.specs.declared.Query.the-variants as query
-use Rattle.live.proofs.Found.{matched, answered-first}
+use Rattle.live_search.specs.declared.Query.the-variants as query
+use Rattle.live_search.proofs.Found.{matched, answered-first}
+use Rattle.live_changes.specs.declared.Change.the-variants as change
 use Rattle.decisions.specs.Verdicts.{actOf}
 use Rattle.decisions.specs.declared.judging.Verdict.{Verdict}
 use Rattle.decisions.proofs.Searched.{Searched, Asks, none-found, one-found}

@@ -15,11 +15,11 @@ use Rattle.ledger.specs.Receiving.{flies, acknowledgedIn, onAck, onNak}
 use Rattle.ledger.specs.declared.Cause.the-variants.{Acknowledged}
 use Rattle.ledger.specs.declared.Word.the-variants as word
 use Rattle.endpoint.specs.Endpoint.{stateOf, liveOf}
+use Rattle.endpoint.specs.Places.{at}
 use Rattle.endpoint.specs.declared.Requests.{Requests}
 use Rattle.endpoint.specs.declared.State.the-variants.{InFlight, Waiting}
-use Rattle.live.specs.Changing.{at}
-use Rattle.live.specs.declared.Change.the-variants as change
-use Rattle.live.specs.declared.Query.the-variants as query
+use Rattle.live_search.specs.declared.Query.the-variants as query
+use Rattle.live_changes.specs.declared.Change.the-variants as change
 use Rattle.decisions.specs.Verdicts.{actOf}
 use Rattle.decisions.specs.declared.judging.Verdict.{Verdict}
 use Rattle.decisions.proofs.Searched.{Searched, Finds, rowAt, none-found, one-found, found-row, flying-state}

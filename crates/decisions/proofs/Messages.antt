@@ -17,7 +17,7 @@ use Rattle.ledger.specs.Receiving as receiving
 use Rattle.ledger.specs.Receiving.{flies, acknowledgedIn, commandIn, ackMessage, replying, remembering, only, onAck, onNak, onResponse, onData, onSequenced, onMessage}
 use Rattle.ledger.specs.declared.Command.{Command}
 use Rattle.ledger.specs.declared.Word.the-variants as word
-use Rattle.live.specs.Changing.{after}
+use Rattle.endpoint.specs.Places.{after}
 use Rattle.decisions.specs.Verdicts.{actOf, replyTo}
 use Rattle.decisions.specs.declared.judging.Verdict.{Verdict}
 use Rattle.decisions.proofs.Words.{Only, only-act}

@@ -13,17 +13,17 @@ use Rattle.ledger.specs.Parts as ledger
 use Rattle.ledger.specs.Parts.{liveMax, queued, inFlight, waiting, nobody, somebody, oldest}
 use Rattle.ledger.specs.Receiving.{frameIn}
 use Rattle.endpoint.specs.Endpoint.{stateOf, requestOf, roomAt, rowsOf, liveOf}
+use Rattle.endpoint.specs.Places.{at, after}
 use Rattle.endpoint.specs.declared.State.{State}
 use Rattle.endpoint.specs.declared.State.the-variants.{Queued, InFlight, Waiting}
 use Rattle.endpoint.specs.declared.Request.{Request}
 use Rattle.endpoint.specs.declared.Requests.{Requests}
 use Rattle.endpoint.proofs.State.{the-type}
 use Rattle.endpoint.proofs.Rows.{blankRow, length-rows, rows-at}
-use Rattle.live.specs.Searching.{isShown, shows, firstWhere}
-use Rattle.live.specs.Changing.{at, after}
-use Rattle.live.specs.declared.Query.{Query}
-use Rattle.live.proofs.Found.{oldest-none, oldest-some, found-shows, shows-rows}
-use Rattle.live.proofs.Listing.{length-requests, requests-at}
+use Rattle.endpoint.proofs.Listed.{length-requests, requests-at}
+use Rattle.live_search.specs.Searching.{isShown, shows, firstWhere}
+use Rattle.live_search.specs.declared.Query.{Query}
+use Rattle.live_search.proofs.Found.{oldest-none, oldest-some, found-shows, shows-rows}
 
 -- a row that a search answers, in rows within their array
 pub record Searched (live : Requests) (query : Query) (row : ℕ) : Type 0 where

@@ -14,11 +14,11 @@ use Rattle.ledger.specs.Polling as polling
 use Rattle.ledger.specs.Polling.{overdueIn, queuedIn, orElse}
 use Rattle.ledger.specs.declared.Cause.the-variants.{NoResponse, NoAcknowledgement}
 use Rattle.endpoint.specs.Endpoint.{stateOf, liveOf}
+use Rattle.endpoint.specs.Places.{at}
 use Rattle.endpoint.specs.declared.State.{State}
 use Rattle.endpoint.specs.declared.State.the-variants.{InFlight}
 use Rattle.endpoint.specs.declared.Requests.{Requests}
-use Rattle.live.specs.Changing.{at}
-use Rattle.live.specs.declared.Query.the-variants.{Overdue, Flying, Queued}
+use Rattle.live_search.specs.declared.Query.the-variants.{Overdue, Flying, Queued}
 use Rattle.link.specs.declared.frame.Frame.{Frame}
 use Rattle.decisions.specs.Steps.{sentFrom, stepOf, Reaches, Steps, frameAct}
 use Rattle.decisions.specs.declared.stepping.Step.{Step}

@@ -8,8 +8,8 @@ use Rattle.link.specs.declared.repeats.Seen.{Seen}
 use Rattle.ledger.specs.Parts as ledger
 use Rattle.ledger.specs.Promises.{wordOf}
 use Rattle.ledger.specs.declared.Word.{Word}
-use Rattle.live.specs.Changing.{Names}
-use Rattle.live.specs.declared.Change.the-variants as change
+use Rattle.live_changes.specs.Changing.{Names}
+use Rattle.live_changes.specs.declared.Change.the-variants as change
 use Rattle.decisions.specs.Verdicts.{bytesFor, actOf}
 use Rattle.decisions.specs.declared.judging.Verdict.{Verdict}
 

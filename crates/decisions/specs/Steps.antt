@@ -14,8 +14,8 @@ use Rattle.ledger.specs.Promises.{causeOf}
 use Rattle.ledger.specs.Polling as polling
 use Rattle.ledger.specs.Polling.{ends, sends, step4}
 use Rattle.endpoint.specs.Endpoint.{liveOf}
+use Rattle.endpoint.specs.Places.{at, after}
 use Rattle.endpoint.specs.declared.Requests.{Requests}
-use Rattle.live.specs.Changing.{at, after}
 use Rattle.decisions.specs.declared.stepping.Step.{Step}
 use Rattle.decisions.specs.declared.stepping.Step.the-variants.{End, Again, First, Quiet}
 

@@ -15,7 +15,7 @@ use Rattle.ledger.specs.declared.Word.{Word}
 use Rattle.ledger.specs.declared.Word.the-variants.{Nothing, Stray, Repeat, NotCommand, Event, Response, Unmatched}
 use Rattle.endpoint.specs.Endpoint.{ledgerOf, liveOf}
 use Rattle.endpoint.specs.declared.Endpoint.{Endpoint}
-use Rattle.live.specs.Changing.{changed, endingBy, Names}
+use Rattle.live_changes.specs.Changing.{changed, endingBy, Names}
 use Rattle.decisions.specs.declared.judging.Verdict.{Verdict}
 
 -- the bytes for the data buffer, by the word: "Events and responses put their data at the front"

@@ -9,9 +9,9 @@ use endpoint::Requests;
 use endpoint::State;
 use ledger::Cause;
 use link::frame::Frame;
-use live::states::oldest_flying;
-use live::states::oldest_overdue;
-use live::states::oldest_queued;
+use live_states::oldest_flying;
+use live_states::oldest_overdue;
+use live_states::oldest_queued;
 
 // The request in a row ends, its frame is sent again as this one, it is sent for the first time, or nothing is to be done.
 pub enum Step {

@@ -1,4 +1,5 @@
 pub mod Rows
+pub mod Listed
 pub mod Scans
 pub mod OneRequest
 pub mod Order

@@ -1,8 +1,9 @@
 -- The rows in use: how many they are, which one is next, and where they end.
-use Prim.Native.Nat.{ℕ, suc, _≤_, _<_}
+use Prim.Native.Nat.{ℕ, suc, _+_, _≤_, _<_}
 use mathlib.Core.Bool.{false}
 use mathlib.Core.List.{List, [], _∷_}
 use mathlib.Core.Path.{_≡_, ap, _∙_}
+use native.Mathlib.Numerals.{add-one}
 use native.Mathlib.Omega.{arith}
 use lib.ListN.{length, take, drop, getD, drop-of-length-le}
 use lib.Seq.{length-take-le, drop-cons, getD-take}
@@ -41,6 +42,13 @@ first-next rows n i h less =
 pub first-end : (rows : List Request) (n i : ℕ) → n ≤ length rows → n ≤ i → drop i (take n rows) ≡ []
 first-end rows n i h less = drop-of-length-le (take n rows) {i = i} (rw (length-first rows n h) less)
 
+-- what is left of the rows in use, and the row of a turn
+abbrev pub rest : Requests → ℕ → List Request
+rest live i = drop i (rowsOf live)
+
+abbrev pub row : Requests → ℕ → Request
+row live i = getD (live .rows) i blankRow
+
 -- the same of the rows in use
 module _ (live : Requests) (three : length (live .rows) ≡ liveMax) (few : live .count ≤ liveMax) where
   within : live .count ≤ length (live .rows)
@@ -57,3 +65,7 @@ module _ (live : Requests) (three : length (live .rows) ≡ liveMax) (few : live
 
   pub rows-end : (i : ℕ) → live .count ≤ i → drop i (rowsOf live) ≡ []
   rows-end i less = first-end (live .rows) (live .count) i within less
+
+  -- and in the terms of a loop
+  pub rows-turn : (i : ℕ) → i < live .count → rest live i ≡ row live i ∷ rest live (i + 1)
+  rows-turn i less = rows-next i less ∙ rw (add-one i)

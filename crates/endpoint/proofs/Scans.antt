@@ -1,9 +1,8 @@
 -- One turn of each scan of the rows: what the row in turn and the rows after it give.
-use Prim.Native.Nat.{ℕ, suc, _+_, _≤_, _<_}
+use Prim.Native.Nat.{ℕ, _+_, _≤_, _<_}
 use mathlib.Core.Bool.{Bool, true, false, _||_}
 use mathlib.Core.List.{List, _∷_}
 use mathlib.Core.Path.{_≡_, refl, ap, _∙_}
-use native.Mathlib.Omega.{arith}
 use lib.Dec.{eqb}
 use lib.ListN.{length, drop, getD}
 use Rattle.ledger.specs.Parts.{liveMax}
@@ -14,17 +13,11 @@ use Rattle.endpoint.specs.Endpoint.{stateOf, rowsOf}
 use Rattle.endpoint.specs.Malformed.{bareOf}
 use Rattle.endpoint.specs.declared.Request.{Request}
 use Rattle.endpoint.specs.declared.Requests.{Requests}
-use Rattle.endpoint.proofs.Rows.{blankRow, rows-next, rows-end}
+use Rattle.endpoint.proofs.Rows.{blankRow, rest, row, rows-turn, rows-end}
 
 module _ (live : Requests) (three : length (live .rows) ≡ liveMax) (few : live .count ≤ liveMax) (i : ℕ) where
-  -- the row in turn
-  abbrev row : Request
-  row = getD (live .rows) i blankRow
-
-  next : i < live .count → drop i (rowsOf live) ≡ row ∷ drop (i + 1) (rowsOf live)
-  next less =
-      let sum : suc i ≡ i + 1 = omega arith in
-      rows-next live three few i less ∙ ap (λ (j : ℕ). row ∷ drop j (rowsOf live)) sum
+  next : i < live .count → rest live i ≡ row live i ∷ rest live (i + 1)
+  next = rows-turn live three few i
 
   -- whether an ID is live
   pub live-next : (id : ℕ) → i < live .count

@@ -1,3 +1,4 @@
 pub mod Endpoint
 pub mod Malformed
 pub mod Code
+pub mod Places

@@ -18,6 +18,9 @@ pub const RESERVED_MAX: u64 = 255;
 // The last request ID ("after 65535 comes R + 1").
 pub const LAST_ID: u16 = 65535;
 
+// How long a request waits for its response, in milliseconds ("at least 3,000 ms (house)").
+pub const RESPONSE_TIME: u64 = 3000;
+
 // The bytes of a store: those held from the line, then a room for the data of each live request.
 pub const STORE_LENGTH: usize = HELD_MAX + LIVE_MAX * MAX_DATA;
 

@@ -19,8 +19,8 @@ use Rattle.ledger.specs.Runs.{open-for, openedBy}
 use Rattle.claims.proofs.Fine.{fresh-fine, not-malformed}
 use Rattle.endpoint.specs.Endpoint.{requestsFrom, ledgerOf}
 use Rattle.endpoint.specs.Malformed.{tooLong, malformed}
+use Rattle.endpoint.specs.Places.{Fits}
 use Rattle.endpoint.specs.declared.Endpoint.{Endpoint}
-use Rattle.live.specs.Changing.{Fits}
 use Rattle.refinement.proofs.Sound.{endpoint-sound}
 use Rattle.refusals.proofs.Table.{first-holds, first-fails, no-line}
 

@@ -13,8 +13,8 @@ use Rattle.ledger.specs.Answers.{Done}
 use Rattle.ledger.specs.Receiving.{nakMessage}
 use Rattle.endpoint.specs.Endpoint.{storeLength, ledgerOf}
 use Rattle.endpoint.specs.Malformed.{malformed}
+use Rattle.endpoint.specs.Places.{Fits}
 use Rattle.endpoint.specs.declared.Endpoint.{Endpoint}
-use Rattle.live.specs.Changing.{Fits}
 use Rattle.decisions.specs.Verdicts.{replyTo}
 use Rattle.host_answers.specs.Promises.{Outcome}
 

@@ -20,17 +20,18 @@ use Rattle.ledger.specs.Refusals.{line, firstOf}
 use Rattle.ledger.specs.declared.Cause.{Cause}
 use Rattle.endpoint.specs.Endpoint.{rowsOf, liveOf, ledgerOf}
 use Rattle.endpoint.specs.Malformed.{bareOf}
+use Rattle.endpoint.specs.Places.{at}
 use Rattle.endpoint.specs.declared.Endpoint.{Endpoint}
 use Rattle.endpoint.specs.declared.Requests.{Requests}
 use Rattle.endpoint.specs.declared.State.the-variants.{InFlight}
 use Rattle.endpoint.proofs.Rows.{blankRow}
-use Rattle.live.specs.Changing.{at, changed, Becomes}
-use Rattle.live.specs.Deadlines.{timeOf, leftOf}
-use Rattle.live.specs.declared.Change.the-variants.{Turn, End}
-use Rattle.live.specs.declared.deadline.Time.{Time}
-use Rattle.live.specs.declared.deadline.Time.the-variants.{Never, In}
-use Rattle.live.proofs.Becoming.{live-at}
-use Rattle.live.proofs.Found.{earliest-rows}
+use Rattle.live_changes.specs.Changing.{changed, Becomes}
+use Rattle.live_changes.specs.declared.Change.the-variants.{Turn, End}
+use Rattle.live_changes.proofs.Becoming.{live-at}
+use Rattle.live_deadline.specs.Deadlines.{timeOf, leftOf}
+use Rattle.live_deadline.specs.declared.Time.{Time}
+use Rattle.live_deadline.specs.declared.Time.the-variants.{Never, In}
+use Rattle.live_deadline.proofs.Times.{earliest-rows}
 use Rattle.frames.specs.Promises.{Put}
 use Rattle.decisions.specs.Steps.{stepOf, sentFrom, Reaches, Steps}
 use Rattle.decisions.specs.declared.stepping.Step.{Step}

@@ -12,7 +12,7 @@ use Rattle.ledger.specs.Receiving.{receivedAs}
 use Rattle.endpoint.specs.Endpoint.{ledgerOf, liveOf}
 use Rattle.endpoint.specs.declared.Endpoint.{Endpoint}
 use Rattle.endpoint.specs.declared.Requests.{Requests}
-use Rattle.live.specs.Changing.{changed, endingBy, Becomes}
+use Rattle.live_changes.specs.Changing.{changed, endingBy, Becomes}
 use Rattle.decisions.specs.Verdicts.{bytesFor, actOf}
 use Rattle.decisions.specs.declared.judging.Verdict.{Verdict}
 use Rattle.host_answers.specs.Answers.{endedOf}

@@ -29,7 +29,7 @@ use Rattle.ledger.specs.Receiving.{act, receivedAs}
 use Rattle.ledger.specs.declared.Word.the-variants as word
 use Rattle.endpoint.specs.Endpoint.{ledgerOf, liveOf}
 use Rattle.endpoint.specs.declared.Endpoint.{Endpoint}
-use Rattle.live.specs.declared.Change.the-variants as change
+use Rattle.live_changes.specs.declared.Change.the-variants as change
 use Rattle.frames.specs.Promises.{Put}
 use Rattle.decisions.specs.Verdicts.{bytesFor, actOf, replyTo, Judges}
 use Rattle.decisions.specs.declared.judging.Verdict.{Verdict}

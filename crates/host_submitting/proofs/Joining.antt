@@ -24,9 +24,9 @@ use Rattle.endpoint.specs.declared.Endpoint.{Endpoint}
 use Rattle.endpoint.specs.declared.Request.{Request}
 use Rattle.endpoint.specs.declared.Requests.{Requests}
 use Rattle.endpoint.specs.declared.State.the-variants.{Queued}
-use Rattle.live.specs.Changing.{Becomes}
-use Rattle.live.proofs.Becoming.{length-live}
-use Rattle.live.proofs.Found.{free-rows}
+use Rattle.live_changes.specs.Changing.{Becomes}
+use Rattle.live_changes.proofs.Becoming.{length-live}
+use Rattle.live_ids.proofs.FirstFree.{free-rows}
 use Rattle.refinement.specs.Refusals.{refusalOf}
 use Rattle.refinement.proofs.Sound.{few-of, held-of, fits-of}
 use Rattle.host_answers.specs.Promises.{submitOutcome}

@@ -19,9 +19,9 @@ use endpoint::Requests;
 use endpoint::State;
 use host_answers::SubmitAnswer;
 use host_answers::Submitted;
-use live::changes::joined;
-use live::ids::first_free;
-use live::ids::id_after;
+use live_changes::joined;
+use live_ids::first_free;
+use live_ids::id_after;
 use refusals::Check;
 use refusals::check_submit;
 

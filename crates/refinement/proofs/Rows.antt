@@ -15,7 +15,7 @@ use Rattle.endpoint.specs.Endpoint.{stateOf, roomAt, requestsFrom}
 use Rattle.endpoint.specs.Malformed.{bareOf, tooLong}
 use Rattle.endpoint.specs.declared.Request.{Request}
 use Rattle.endpoint.proofs.Order.{neither}
-use Rattle.live.proofs.Found.{live-rows}
+use Rattle.endpoint.proofs.Listed.{live-rows}
 
 module _ (store : List ℕ) where
   -- a test of the ID, of whether a response is wanted, and of the state

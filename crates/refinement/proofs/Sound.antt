@@ -19,13 +19,13 @@ use Rattle.claims.proofs.Laws.{three-are-few}
 use Rattle.claims.proofs.Views.{view}
 use Rattle.endpoint.specs.Endpoint.{rowsOf, liveOf, ledgerOf}
 use Rattle.endpoint.specs.Malformed.{malformed}
+use Rattle.endpoint.specs.Places.{Fits}
 use Rattle.endpoint.specs.declared.Endpoint.{Endpoint}
 use Rattle.endpoint.proofs.Order.{facts, from-facts}
-use Rattle.live.specs.Changing.{Fits}
+use Rattle.endpoint.proofs.Listed.{length-requests}
 use Rattle.refinement.specs.Refusals.{refusalOf}
 use Rattle.refinement.proofs.Clauses as clauses
 use Rattle.refinement.proofs.Clauses.{clauses}
-use Rattle.live.proofs.Listing.{length-requests}
 use Rattle.refinement.proofs.Rows.{same-some, same-equal, same-flights, short-data}
 
 -- a ledger that is not malformed is fine

@@ -13,7 +13,7 @@ use Rattle.endpoint.specs.Malformed.{bareOf, malformed}
 use Rattle.endpoint.specs.declared.Request.{Request}
 use Rattle.endpoint.specs.declared.Endpoint.{Endpoint}
 use Rattle.endpoint.proofs.Order.{neither, facts}
-use Rattle.live.specs.Deadlines.{IsInTime, NoneLate}
+use Rattle.live_deadline.specs.Deadlines.{IsInTime, NoneLate}
 
 module _ (now clock : ℕ) (later : now ≤ clock) where
   in-time : (s : ledger.State) → isLate now s ≡ false → IsInTime clock s

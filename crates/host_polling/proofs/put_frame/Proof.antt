@@ -12,11 +12,11 @@ use Rattle.command.specs.Promises.{fieldsOf}
 use Rattle.ledger.specs.Parts.{liveMax}
 use Rattle.ledger.specs.Polling.{frameBytes}
 use Rattle.endpoint.specs.Endpoint.{roomPlace, roomAt, storeLength, liveOf}
+use Rattle.endpoint.specs.Places.{at, Fits}
 use Rattle.endpoint.specs.declared.Request.{Request}
 use Rattle.endpoint.specs.declared.Requests.{Requests}
 use Rattle.endpoint.proofs.Rows.{blankRow}
-use Rattle.live.specs.Changing.{at, Fits}
-use Rattle.live.proofs.Becoming.{live-at, len-at}
+use Rattle.live_changes.proofs.Becoming.{live-at, len-at}
 use Rattle.frames.specs.Promises.{Put}
 use Rattle.host_polling.proofs.put_frame.Statement.{statement}
 use Rattle.host_polling.proofs.put_frame.Tie as tie

@@ -8,7 +8,7 @@ use denote.Ref.{now}
 use Rattle.line.specs.Receiving.{heldMax}
 use Rattle.line.specs.declared.Answer.the-variants.{One}
 use Rattle.endpoint.specs.Endpoint.{storeLength}
-use Rattle.live.specs.Changing.{Names}
+use Rattle.live_changes.specs.Changing.{Names}
 use Rattle.refinement.proofs.Sound.{few-of, held-of}
 use Rattle.decisions.specs.declared.judging.Verdict.{Verdict}
 use Rattle.host_answers.specs.Code.{Ready}

@@ -7,10 +7,10 @@ use lib.ListN.{length, getD, length-map}
 use borrow.Author.Needs.{needs}
 use Rattle.ledger.specs.Parts.{liveMax}
 use Rattle.endpoint.specs.Endpoint.{rowsOf, liveOf}
+use Rattle.endpoint.specs.Places.{at}
 use Rattle.endpoint.specs.declared.Requests.{Requests}
 use Rattle.endpoint.proofs.Rows.{blankRow, length-rows, rows-at}
-use Rattle.live.specs.Changing.{at}
-use Rattle.live.proofs.Listing.{requests-at}
+use Rattle.endpoint.proofs.Listed.{requests-at}
 use Rattle.host_receiving.proofs.ending_of.Statement.{statement}
 use Rattle.host_receiving.proofs.ending_of.Tie as tie
 

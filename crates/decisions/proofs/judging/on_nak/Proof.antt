@@ -4,7 +4,7 @@ use native.Mathlib.Omega.{arith}
 use lib.ListN.{length, length-map}
 use borrow.Author.Needs.{needs}
 use Rattle.ledger.specs.Parts.{liveMax}
-use Rattle.live.specs.declared.Query.the-variants.{Flying}
+use Rattle.live_search.specs.declared.Query.the-variants.{Flying}
 use Rattle.decisions.proofs.Searched.{Searched, rowAt, none-flying}
 use Rattle.decisions.proofs.Words.{only-names}
 use Rattle.decisions.proofs.Flights.{nak-stray, nak-marks, flies-there}

@@ -4,7 +4,7 @@ use native.Mathlib.Omega.{arith}
 use lib.ListN.{length, length-map}
 use borrow.Author.Needs.{needs}
 use Rattle.ledger.specs.Parts.{liveMax}
-use Rattle.live.specs.declared.Query.the-variants.{Overdue, Flying, Queued}
+use Rattle.live_search.specs.declared.Query.the-variants.{Overdue, Flying, Queued}
 use Rattle.decisions.proofs.Searched.{Searched}
 use Rattle.decisions.proofs.Stepped.{steps-overdue, steps-frame, steps-first, steps-quiet}
 use Rattle.decisions.proofs.stepping.next_step.Statement.{statement}

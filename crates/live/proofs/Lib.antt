@@ -1,9 +1,0 @@
-pub mod Moving
-pub mod Stores
-pub mod Listing
-pub mod Removing
-pub mod Becoming
-pub mod Shown
-pub mod Found
-pub mod Times
-pub mod Turns
