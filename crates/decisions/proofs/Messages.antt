@@ -18,10 +18,10 @@ use Rattle.ledger.specs.Receiving.{flies, acknowledgedIn, commandIn, ackMessage
 use Rattle.ledger.specs.declared.Command.{Command}
 use Rattle.ledger.specs.declared.Word.the-variants as word
 use Rattle.endpoint.specs.Places.{after}
-use Rattle.decisions.specs.Verdicts.{actOf, replyTo}
-use Rattle.decisions.specs.declared.judging.Verdict.{Verdict}
-use Rattle.decisions.proofs.Words.{Only, only-act}
-use Rattle.decisions.proofs.Commands.{event, answering, onCommand}
+use Rattle.decisions_verdict.specs.Verdicts.{actOf, replyTo}
+use Rattle.decisions_verdict.specs.declared.Verdict.{Verdict}
+use Rattle.decisions_verdict.proofs.Words.{Only, only-act}
+use Rattle.decisions_data.proofs.Commands.{event, answering, onCommand}
 
 -- DATA_SEQ
 module _ (l : Ledger) (clock seq : ℕ) (payload : List ℕ) (seen : Seen) (last : l .seen ≡ seenOf seen) where

@@ -15,7 +15,7 @@ use Rattle.endpoint.specs.Endpoint.{storeLength, ledgerOf}
 use Rattle.endpoint.specs.Malformed.{malformed}
 use Rattle.endpoint.specs.Places.{Fits}
 use Rattle.endpoint.specs.declared.Endpoint.{Endpoint}
-use Rattle.decisions.specs.Verdicts.{replyTo}
+use Rattle.decisions_verdict.specs.Verdicts.{replyTo}
 use Rattle.host_answers.specs.Promises.{Outcome}
 
 -- what an accepted call works with: an endpoint that is not malformed, a reading not below its clock, and a store of its length

@@ -33,9 +33,9 @@ use Rattle.live_deadline.specs.declared.Time.{Time}
 use Rattle.live_deadline.specs.declared.Time.the-variants.{Never, In}
 use Rattle.live_deadline.proofs.Times.{earliest-rows}
 use Rattle.frames.specs.Promises.{Put}
-use Rattle.decisions.specs.Steps.{stepOf, sentFrom, Reaches, Steps}
-use Rattle.decisions.specs.declared.stepping.Step.{Step}
-use Rattle.decisions.specs.declared.stepping.Step.the-variants as step
+use Rattle.decisions_poll.specs.Steps.{stepOf, sentFrom, Reaches, Steps}
+use Rattle.decisions_poll.specs.declared.Step.{Step}
+use Rattle.decisions_poll.specs.declared.Step.the-variants as step
 use Rattle.refinement.proofs.Sound.{held-of, fits-of}
 use Rattle.host_answers.specs.Promises.{Outcome, pollOutcome}
 use Rattle.refusals.specs.Code.{withEndpoint}

@@ -13,8 +13,8 @@ use Rattle.endpoint.specs.Endpoint.{ledgerOf, liveOf}
 use Rattle.endpoint.specs.declared.Endpoint.{Endpoint}
 use Rattle.endpoint.specs.declared.Requests.{Requests}
 use Rattle.live_changes.specs.Changing.{changed, endingBy, Becomes}
-use Rattle.decisions.specs.Verdicts.{bytesFor, actOf}
-use Rattle.decisions.specs.declared.judging.Verdict.{Verdict}
+use Rattle.decisions_verdict.specs.Verdicts.{bytesFor, actOf}
+use Rattle.decisions_verdict.specs.declared.Verdict.{Verdict}
 use Rattle.host_answers.specs.Answers.{endedOf}
 use Rattle.host_answers.specs.Promises.{receiveOutcome}
 use Rattle.host_answers.specs.Code.{Does, DecidesIn}

@@ -31,8 +31,8 @@ use Rattle.endpoint.specs.Endpoint.{ledgerOf, liveOf}
 use Rattle.endpoint.specs.declared.Endpoint.{Endpoint}
 use Rattle.live_changes.specs.declared.Change.the-variants as change
 use Rattle.frames.specs.Promises.{Put}
-use Rattle.decisions.specs.Verdicts.{bytesFor, actOf, replyTo, Judges}
-use Rattle.decisions.specs.declared.judging.Verdict.{Verdict}
+use Rattle.decisions_verdict.specs.Verdicts.{bytesFor, actOf, replyTo, Judges}
+use Rattle.decisions_verdict.specs.declared.Verdict.{Verdict}
 use Rattle.host_answers.specs.Promises.{receiveOutcome}
 use Rattle.host_answers.specs.Code.{Does, replyFor, DecidesIn}
 use Rattle.host_answers.specs.declared.Received.{Received}

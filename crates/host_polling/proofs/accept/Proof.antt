@@ -3,7 +3,7 @@ use mathlib.Core.Path.{refl}
 use borrow.Author.Needs.{needs}
 use denote.Ref.{now}
 use Rattle.link.specs.Promises.{frameOf}
-use Rattle.decisions.specs.declared.stepping.Step.the-variants.{End, Again, First, Quiet}
+use Rattle.decisions_poll.specs.declared.Step.the-variants.{End, Again, First, Quiet}
 use Rattle.refinement.proofs.Sound.{few-of}
 use Rattle.host_polling.proofs.Stepping.{stepped, reached, first-sent}
 use Rattle.host_polling.proofs.accept.Statement.{statement}

@@ -10,7 +10,7 @@ use Rattle.line.specs.declared.Answer.the-variants.{One}
 use Rattle.endpoint.specs.Endpoint.{storeLength}
 use Rattle.live_changes.specs.Changing.{Names}
 use Rattle.refinement.proofs.Sound.{few-of, held-of}
-use Rattle.decisions.specs.declared.judging.Verdict.{Verdict}
+use Rattle.decisions_verdict.specs.declared.Verdict.{Verdict}
 use Rattle.host_answers.specs.Code.{Ready}
 use Rattle.host_answers.proofs.Held.{length-front}
 use Rattle.host_receiving.proofs.Deciding.{short-payload, on-more, on-plain, on-message}
