@@ -1,4 +1,5 @@
--- The fourteen bench examples of document 01, and the runs that show faults, items and refusals, computed by the definitions.
+-- The fourteen bench examples of document 01, and the runs that show faults, items and refusals, computed by the definitions, each
+-- value once (`Once`).
 use mathlib.Core.Path.{refl}
 use Rattle.checksum.specs.Checksum.{withBit, withBits, bitsOf, checksumFrom, checksumOf}
 use Rattle.message.specs.Bytes.{le16, fields, header, body, message, allowed}
@@ -17,14 +18,15 @@ use Rattle.ledger.specs.Polling.{earliest}
 use Rattle.ledger.specs.Polling as polling
 use Rattle.ledger.specs.Refusals.{some-of, twoEqual, flights, malformed, firstOf}
 use Rattle.ledger.specs.Runs.{step}
-use Rattle.ledger.specs.Examples.{Agrees, IsTrue, AreTrue, table}
+use Rattle.ledger.specs.Examples.{AreTrue, table}
 use Rattle.ledger.specs.FaultRuns.{faultRuns}
 use Rattle.ledger.specs.ItemRuns.{itemRuns}
 use Rattle.ledger.specs.RefusalRuns.{refusalRuns}
+use Rattle.ledger.proofs.Once.{AgreesOnce, IsTrueOnce, AreTrueOnce, are-true}
 
 -- all that a table is computed with
 computed : Unit {0}
-unfolding AreTrue IsTrue Agrees step firstOf malformed flights twoEqual some-of polling.act earliest ledger.receive onMessage onData matches firstFree isLive idAfter oldest
+unfolding AreTrueOnce IsTrueOnce AgreesOnce step firstOf malformed flights twoEqual some-of polling.act earliest ledger.receive onMessage onData matches firstFree isLive idAfter oldest
     isRepeat seenAfter due mayGoAgain seqAfter payload isCommand answers receive taken smallest placed scan dropped stands rules payloadOf
     allowed message body header fields le16 checksumOf checksumFrom withBits withBit bitsOf
 computed = tt
@@ -34,9 +36,9 @@ _also_ : {A B : Type 0} → A → B → A × B
 a also b = (a, b)
 
 -- each is computed: an equation for a checksum or a message, two for a call, and one for the bytes held in the end
-pub examples : AreTrue table
+examples-once : AreTrueOnce table
 unfolding computed
-examples =
+examples-once =
     refl
     also refl
     also refl
@@ -53,15 +55,21 @@ examples =
     also (refl, refl, (refl, refl, (refl, refl, (refl, refl, refl))))
     also tt
 
+pub examples : AreTrue table
+examples = are-true table examples-once
+
 -- and the runs that show the faults
-pub fault-runs : AreTrue faultRuns
+fault-runs-once : AreTrueOnce faultRuns
 unfolding computed
-fault-runs = (refl, refl, refl) also (refl, refl, (refl, refl, refl)) also (refl, refl, (refl, refl, refl)) also (refl, refl, (refl, refl, (refl, refl, refl))) also tt
+fault-runs-once = (refl, refl, refl) also (refl, refl, (refl, refl, refl)) also (refl, refl, (refl, refl, refl)) also (refl, refl, (refl, refl, (refl, refl, refl))) also tt
+
+pub fault-runs : AreTrue faultRuns
+fault-runs = are-true faultRuns fault-runs-once
 
 -- the runs of items
-pub item-runs : AreTrue itemRuns
+item-runs-once : AreTrueOnce itemRuns
 unfolding computed
-item-runs =
+item-runs-once =
     (refl, refl, refl)
     also (refl, refl, refl)
     also (refl, refl, refl)
@@ -74,10 +82,13 @@ item-runs =
     also (refl, refl, refl)
     also tt
 
+pub item-runs : AreTrue itemRuns
+item-runs = are-true itemRuns item-runs-once
+
 -- and the refusals
-pub refusal-runs : AreTrue refusalRuns
+refusal-runs-once : AreTrueOnce refusalRuns
 unfolding computed
-refusal-runs =
+refusal-runs-once =
     (refl, refl, refl)
     also (refl, refl, refl)
     also (refl, refl, refl)
@@ -100,3 +111,6 @@ refusal-runs =
     also (refl, refl, (refl, refl, refl))
     also (refl, refl, (refl, refl, (refl, refl, refl)))
     also tt
+
+pub refusal-runs : AreTrue refusalRuns
+refusal-runs = are-true refusalRuns refusal-runs-once
