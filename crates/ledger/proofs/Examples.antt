@@ -73,6 +73,7 @@ item-runs-once =
     (refl, refl, refl)
     also (refl, refl, refl)
     also (refl, refl, refl)
+    also (refl, refl, (refl, refl, refl))
     also (refl, refl, refl)
     also (refl, refl, refl)
     also (refl, refl, refl)

@@ -9,11 +9,11 @@ use Rattle.message.specs.Items.{damagedHeader, forbidden}
 use Rattle.line.specs.Receiving.{item}
 use Rattle.command.specs.Payload.{maxData, payload}
 use Rattle.ledger.specs.Parts.{fresh}
-use Rattle.ledger.specs.Answers.{Word, noWord, stray, notCommand, event, unmatched, received}
+use Rattle.ledger.specs.Answers.{Word, noWord, stray, notCommand, event, unmatched, received, sent}
 use Rattle.ledger.specs.Receiving.{ackMessage, nakMessage}
 use Rattle.ledger.specs.Calls.{receive}
-use Rattle.ledger.specs.Examples.{Example, calls, zeros, front, fields, receives, case-5, nakItem}
-use Rattle.ledger.specs.FaultRuns.{bytes, told}
+use Rattle.ledger.specs.Examples.{Row, Example, calls, zeros, front, fields, polls, receives, case-5, nakItem}
+use Rattle.ledger.specs.FaultRuns.{with-live, request, flying, frame, bytes, told}
 
 -- a data frame of a TYPE with a payload, for R = 38 with nothing live: the word, the reply and the bytes put into the data buffer
 abbrev pub frameGets : (type : ℕ) (payload : List ℕ) → Word → (reply puts : List ℕ) → Example
@@ -38,6 +38,10 @@ command id = payload fields id bytes
 abbrev pub damagedAck : List ℕ
 damagedAck = 0xAA ∷ 0x55 ∷ 0x40 ∷ 0x00 ∷ 0x00 ∷ 0x00 ∷ 0x5C ∷ 0xEB ∷ []
 
+-- a NAK with SEQ 0, then a poll that sends the frame again
+abbrev pub markedThenSent : List Row
+markedThenSent = receives case-5 0 nakItem noWord none [] ∷ polls 0 (sent 18) (frame 40) ∷ []
+
 abbrev pub itemRuns : List Example
 itemRuns =
     -- "Damaged header .. : reply NAK, whatever TYPE the header shows": here ACK
@@ -46,6 +50,8 @@ itemRuns =
     ∷ calls (fresh 38) (receives (take 8 (message 0x01 0 [])) 0 (item forbidden) noWord none [] ∷ []) 6
     -- "NAK: .. none in flight: *stray*."
     ∷ calls (fresh 38) (receives case-5 0 nakItem stray none [] ∷ []) 0
+    -- "NAK: marks the frame in flight", which is due then; its SEQ "is ignored": that in flight is 1
+    ∷ calls (with-live 0 (request 40 (flying 0) ∷ [])) markedThenSent 0
     -- "LEN under 8 or first byte not 0x80: *not a command*."
     ∷ frameGets dataSeq (take 7 (command 38)) notCommand (ackMessage 9) []
     ∷ frameGets dataSeq (0x81 ∷ command 38) notCommand (ackMessage 9) []

@@ -47,7 +47,8 @@ pub fn payload(bytes: &[u8], reading: Reading) -> &[u8]
         len,
     } = item
     else {
-        return &bytes[..0];
+        // damaged or forbidden
+        return &bytes[..0]; // of no message
     };
     after_header(bytes, dropped, len)
 }
