@@ -1,4 +1,4 @@
-// The ID that a submit issues: none that is live (document 01, **Submit**).
+// The ID that a submit issues (document 01, **Submit**: "The ID is the first one not live, from the next request ID on").
 ghost use mathlib.Core.Path.{_≡_};
 ghost use Prim.Native.Nat.{_≤_};
 ghost use Rattle.ledger.specs.Parts.{liveMax, reservedMax};
