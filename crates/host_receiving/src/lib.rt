@@ -1,38 +1,34 @@
 // Receive (document 01, **Receive**), with the store as a slice of its length: for `host`, which lends it by its type.
 ghost use mathlib.Core.Path.{_≡_};
-ghost use mathlib.Core.List.{List, []};
-ghost use Prim.Native.Nat.{ℕ, _+_, _≤_, _<_};
+ghost use mathlib.Core.List.{List};
+ghost use Prim.Native.Nat.{ℕ, _+_, _≤_};
 ghost use lib.ListN.{length, take, drop};
 ghost use Rattle.message.specs.Bytes.{total, maxLen};
-ghost use Rattle.message.specs.Promises.{itemOf};
 ghost use Rattle.message.specs.Writing.{placed};
 ghost use Rattle.line.specs.Receiving as line;
 ghost use Rattle.line.specs.Receiving.{heldMax};
 ghost use Rattle.line.specs.Promises.{partOf};
-ghost use Rattle.command.specs.Payload.{maxData, dataIn};
+ghost use Rattle.command.specs.Payload.{maxData};
 ghost use Rattle.ledger.specs.Parts.{liveMax};
 ghost use Rattle.ledger.specs.Receiving as ledger;
 ghost use Rattle.ledger.specs.Receiving.{receivedAs};
 ghost use Rattle.endpoint.specs.Endpoint.{storeLength, ledgerOf, liveOf};
-ghost use Rattle.live_changes.specs.Changing.{endingBy, Names};
-ghost use Rattle.frames.specs.Promises.{Put};
-ghost use Rattle.host_answers.specs.Answers.{endedOf};
+ghost use Rattle.live_changes.specs.Changing.{Names};
 ghost use Rattle.host_answers.specs.Promises as promise;
 ghost use Rattle.host_answers.specs.Promises.{receiveOutcome};
-ghost use Rattle.host_answers.specs.Code.{Ready, Does, replyFor, DecidesIn};
-ghost use Rattle.decisions_verdict.specs.Verdicts.{bytesFor, actOf, replyTo, Judges};
+ghost use Rattle.host_answers.specs.Code.{Ready, Does, DecidesIn};
+ghost use Rattle.decisions_verdict.specs.Verdicts.{bytesFor, actOf, Judges};
 use decisions::judge;
 use decisions_verdict::Verdict;
 use decisions_verdict::only;
 use endpoint::Endpoint;
 use endpoint::Requests;
-use frames::put_ack;
-use frames::put_nak;
-use host_answers::Ended;
 use host_answers::Receipt;
 use host_answers::ReceiveAnswer;
 use host_answers::Received;
-use ledger::Ending;
+use host_deliveries::ending_of;
+use host_deliveries::hand_over;
+use host_deliveries::put_reply;
 use ledger::Word;
 use line::Answer;
 use line::Decision;
@@ -41,11 +37,9 @@ use line::payload::payload;
 use line_deciding::decide;
 use line_receiving::settle;
 use link::repeats::Seen;
-use live_changes::Change;
 use live_changes::carry_out;
 use message::Item;
 use message::Seq;
-use message::header::DATA_SEQ;
 use refusals::Check;
 use refusals::check_receive;
 
@@ -134,30 +128,6 @@ fn settle_in(store: &mut [u8], decision: Decision) -> usize
     settle(&mut store[..HELD_MAX], decision)
 }
 
-// The reply to an item: "Damaged header or payload: reply NAK .. Forbidden: no reply.", "DATA_SEQ: reply ACK with its SEQ."
-fn put_reply(reply: &mut [u8], item: Item) -> usize
-    requires { ⌜ total 0 ≤ length (now reply) ⌝ }
-    ensures { λ r. ⌜ Put r (replyFor (itemOf item)) (now (reply .entry)) (now (reply .exit)) ⌝ }
-{
-    match item {
-        Item::DamagedHeader => put_nak(reply),
-        Item::Forbidden => 0,
-        Item::DamagedPayload => put_nak(reply),
-        Item::Message { kind, seq, len: _ } => acknowledge(reply, kind, seq),
-    }
-}
-
-// An ACK to DATA_SEQ, nothing to another message.
-fn acknowledge(reply: &mut [u8], kind: u8, seq: Seq) -> usize
-    requires { ⌜ total 0 ≤ length (now reply) ⌝ }
-    ensures { λ r. ⌜ Put r (replyTo kind (seq .0)) (now (reply .entry)) (now (reply .exit)) ⌝ }
-{
-    if kind == DATA_SEQ {
-        return put_ack(reply, seq);
-    }
-    0
-}
-
 // What a message does, with the data of an event or a response put into the data buffer.
 fn deliver<'a>(
     e: Endpoint,
@@ -181,30 +151,6 @@ fn deliver<'a>(
     let word = verdict.word;
     hand_over(buffer, word, body);
     verdict
-}
-
-// "Events and responses put their data at the front of the lent data buffer; no other item touches it."
-fn hand_over(buffer: &mut [u8], word: Word, body: &[u8])
-    requires { ⌜ length (dataIn (now body)) ≤ length (now buffer) ⌝ }
-    ensures { λ _. ⌜ now (buffer .exit) ≡ placed 0 (bytesFor word (now (body .entry))) (now (buffer .entry)) ⌝ }
-{
-    match word {
-        Word::Nothing => {}
-        Word::Stray => {}
-        Word::Repeat => {}
-        Word::NotCommand => {}
-        Word::Event(_) => put_data(buffer, body),
-        Word::Response(_) => put_data(buffer, body),
-        Word::Unmatched(_) => {}
-    }
-}
-
-// The data of a payload at the front of the buffer.
-fn put_data(buffer: &mut [u8], body: &[u8])
-    requires { ⌜ length (dataIn (now body)) ≤ length (now buffer) ⌝ }
-    ensures { λ _. ⌜ now (buffer .exit) ≡ placed 0 (dataIn (now (body .entry))) (now (buffer .entry)) ⌝ }
-{
-    bytes::copy(command::reader::data(body), buffer);
 }
 
 // Carries out what an item does, when the store is as the line's decision left it: the bytes to be held go to the front, and the
@@ -243,22 +189,6 @@ fn act(
     Received {
         answer: ReceiveAnswer::Received(receipt),
         endpoint: after(e, live, seen, held, clock),
-    }
-}
-
-// The ending that a change makes.
-fn ending_of(live: Requests, change: Change) -> Ended
-    requires { ⌜ (live .count ≤ liveMax) × Names change (live .count) ⌝ }
-    ensures { λ r. ⌜ ((store : List ℕ) → endedOf r ≡ endingBy change (liveOf live store)) ⌝ }
-{
-    match change {
-        Change::Nothing => Ended::Nobody,
-        Change::Turn(_, _) => Ended::Nobody,
-        Change::End(row, cause) => {
-            let q = live.rows[row];
-            let id = q.id;
-            Ended::One(Ending { id, cause })
-        }
     }
 }
 

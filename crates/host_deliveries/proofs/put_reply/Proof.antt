@@ -1,10 +1,10 @@
--- `host_receiving::put_reply` meets its contract: by the item.
+-- `host_deliveries::put_reply` meets its contract: by the item.
 use mathlib.Core.Path.{refl, sym}
 use borrow.Author.Needs.{needs}
 use denote.Ref.{now}
 use Rattle.host_answers.proofs.Held.{placed-none}
-use Rattle.host_receiving.proofs.put_reply.Statement.{statement}
-use Rattle.host_receiving.proofs.put_reply.Tie as tie
+use Rattle.host_deliveries.proofs.put_reply.Statement.{statement}
+use Rattle.host_deliveries.proofs.put_reply.Tie as tie
 
 enum-told : tie.Need-enum-told
 enum-told c = search needs

@@ -1,4 +1,4 @@
--- `host_receiving::ending_of` meets its contract: by the change.
+-- `host_deliveries::ending_of` meets its contract: by the change.
 use Prim.Native.Nat.{ℕ, _≤_, _<_}
 use mathlib.Core.List.{List}
 use mathlib.Core.Path.{_≡_, sym, _∙_}
@@ -11,8 +11,8 @@ use Rattle.endpoint.specs.Places.{at}
 use Rattle.endpoint.specs.declared.Requests.{Requests}
 use Rattle.endpoint.proofs.Rows.{blankRow, length-rows, rows-at}
 use Rattle.endpoint.proofs.Listed.{requests-at}
-use Rattle.host_receiving.proofs.ending_of.Statement.{statement}
-use Rattle.host_receiving.proofs.ending_of.Tie as tie
+use Rattle.host_deliveries.proofs.ending_of.Statement.{statement}
+use Rattle.host_deliveries.proofs.ending_of.Tie as tie
 
 -- the ID of the live request in a row
 id-at : (live : Requests) → length (live .rows) ≡ liveMax → live .count ≤ liveMax → (store : List ℕ) (i : ℕ) → i < live .count

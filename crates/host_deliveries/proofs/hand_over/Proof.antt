@@ -1,10 +1,10 @@
--- `host_receiving::hand_over` meets its contract: by the word.
+-- `host_deliveries::hand_over` meets its contract: by the word.
 use mathlib.Core.Path.{sym}
 use borrow.Author.Needs.{needs}
 use denote.Ref.{now}
 use Rattle.host_answers.proofs.Held.{placed-none}
-use Rattle.host_receiving.proofs.hand_over.Statement.{statement}
-use Rattle.host_receiving.proofs.hand_over.Tie as tie
+use Rattle.host_deliveries.proofs.hand_over.Statement.{statement}
+use Rattle.host_deliveries.proofs.hand_over.Tie as tie
 
 enum-told : tie.Need-enum-told
 enum-told c = search needs

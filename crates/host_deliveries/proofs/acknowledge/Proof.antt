@@ -1,12 +1,12 @@
--- `host_receiving::acknowledge` meets its contract: by the TYPE.
+-- `host_deliveries::acknowledge` meets its contract: by the TYPE.
 use mathlib.Core.Path.{_≡_, refl, sym}
 use borrow.Author.Tests.{eq-eqb, ne-eqb}
 use borrow.Author.Needs.{needs}
 use denote.Ref.{now}
 use Rattle.message.specs.Bytes.{dataSeq}
 use Rattle.host_answers.proofs.Held.{placed-none}
-use Rattle.host_receiving.proofs.acknowledge.Statement.{statement}
-use Rattle.host_receiving.proofs.acknowledge.Tie as tie
+use Rattle.host_deliveries.proofs.acknowledge.Statement.{statement}
+use Rattle.host_deliveries.proofs.acknowledge.Tie as tie
 
 put-ack-requires : tie.Need-put-ack-requires
 put-ack-requires c κs = search needs

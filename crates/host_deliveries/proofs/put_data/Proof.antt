@@ -1,4 +1,4 @@
--- `host_receiving::put_data` meets its contract: the data are copied to the front.
+-- `host_deliveries::put_data` meets its contract: the data are copied to the front.
 use mathlib.Core.List.{_++_}
 use mathlib.Core.Path.{_≡_, _∙_}
 use lib.ListN.{length, take, drop}
@@ -7,8 +7,8 @@ use borrow.Author.Needs.{needs}
 use denote.Ref.{now}
 use Rattle.message.proofs.Buffer.{front}
 use Rattle.command.specs.Payload.{dataIn}
-use Rattle.host_receiving.proofs.put_data.Statement.{statement}
-use Rattle.host_receiving.proofs.put_data.Tie as tie
+use Rattle.host_deliveries.proofs.put_data.Statement.{statement}
+use Rattle.host_deliveries.proofs.put_data.Tie as tie
 
 data-requires : tie.Need-data-requires
 data-requires c κs = search needs
