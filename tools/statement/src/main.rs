@@ -42,7 +42,13 @@ fn main() -> ExitCode {
 fn documents() -> Result<String, String> {
     let tried = gate::read(&tree::text(".ci/rt-ci.log")?)?.refused();
     let releases = releases::check(&tree::text("docs/RELEASES.md")?, &tried)?;
-    let rows = assurance::check(&tree::text("docs/ASSURANCE.md")?, &tried)?;
-    let names = names::check(&names::tree()?)?;
-    Ok(format!("documents: {releases} faults of docs/RELEASES.md, {rows} rows of docs/ASSURANCE.md and {names} names in documents are right\n"))
+    let assurance = tree::text("docs/ASSURANCE.md")?;
+    let rows = assurance::check(&assurance, &tried)?;
+    let known = names::tree()?;
+    let names = names::check(&known)?;
+    let functions = names::covers(&known, &tree::text("docs/ARCHITECTURE.md")?, &assurance)?;
+    Ok(format!(
+        "documents: {releases} faults of docs/RELEASES.md, {rows} rows of docs/ASSURANCE.md and {names} names in documents are right; \
+         {functions} public functions are named\n"
+    ))
 }

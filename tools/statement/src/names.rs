@@ -13,6 +13,37 @@ pub const DOCUMENTS: [&str; 6] = [
     "docs/SESSION-SCRIPT.md",
 ];
 
+/// Checks that nothing was left out: every crate stands in the architecture, and every public function of a crate in the assurance.
+pub fn covers(known: &Tree, architecture: &str, assurance: &str) -> Result<usize, String> {
+    let mut crates = known.crates.clone();
+    crates.dedup();
+    let spans_of = |text: &str| text.lines().flat_map(spans).map(str::to_string).collect::<Vec<_>>();
+    let (named, functions) = (spans_of(architecture), spans_of(assurance));
+    if let Some(lost) = crates.iter().find(|c| !named.contains(c)) {
+        return Err(format!("docs/ARCHITECTURE.md does not name the crate {lost}"));
+    }
+    let mut counted = 0;
+    for (path, text) in &known.code {
+        for function in public_functions(text) {
+            counted += 1;
+            if !functions.iter().any(|f| f.rsplit("::").next() == Some(function)) {
+                return Err(format!("docs/ASSURANCE.md does not name {function}, which is public in {path}"));
+            }
+        }
+    }
+    Ok(counted)
+}
+
+/// The names behind `pub fn` and `pub extern "C" fn`.
+fn public_functions(code: &str) -> Vec<&str> {
+    let heads = code.lines().filter_map(|l| {
+        let l = l.trim_start();
+        let l = l.strip_prefix("#[no_mangle] ").unwrap_or(l);
+        l.strip_prefix("pub fn ").or(l.strip_prefix("pub extern \"C\" fn "))
+    });
+    heads.filter_map(|l| l.split(['(', '<']).next()).collect()
+}
+
 /// What names are looked up in: the crates, and the files below the repository with the text of the code.
 pub struct Tree {
     pub crates: Vec<String>,
@@ -64,7 +95,9 @@ impl Tree {
             return None;
         }
         if let Some((first, _)) = span.split_once("::") {
-            return self.is_crate(first).then(|| self.has_item(first, span.rsplit("::").next().unwrap_or(span)));
+            // a name with `_` is a crate's; another that is no crate may be a module, a type or the kit's
+            let looked_up = self.is_crate(first) || first.contains('_');
+            return looked_up.then(|| self.has_item(first, span.rsplit("::").next().unwrap_or(span)));
         }
         if span.ends_with(".antt") || span.ends_with(".rt") || span.ends_with(".md") {
             return Some(self.files.iter().any(|f| f == span || f.ends_with(&format!("/{span}"))));
@@ -137,7 +170,7 @@ mod tests {
 
     #[test]
     fn names_that_are_not() {
-        for span in ["one::read", "one/specs/B.antt", "one/right", "docs/Y.md", "two/src/lib.rt"] {
+        for span in ["one::read", "one_more::write", "one/specs/B.antt", "one/right", "docs/Y.md", "two/src/lib.rt"] {
             assert_eq!(known().has(span), Some(false), "{span}");
         }
     }
@@ -147,6 +180,15 @@ mod tests {
         for span in ["libc::read", "&[u8]", "N passed, 0 failed", "x..y", "write", "tests/run", ".ci/run"] {
             assert_eq!(known().has(span), None, "{span}");
         }
+    }
+
+    #[test]
+    fn nothing_is_left_out() {
+        assert_eq!(covers(&known(), "the crate `one`", "`one::write`: the answer"), Ok(1));
+        assert!(covers(&known(), "one", "`one::write`").unwrap_err().contains("the crate one"));
+        assert!(covers(&known(), "`one`", "write").unwrap_err().contains("does not name write"));
+        let code = "pub fn a(x: u8)\n    pub fn b<'a>(x: &'a u8)\nfn c()\npub(crate) fn d()\n#[no_mangle] pub extern \"C\" fn e(";
+        assert_eq!(public_functions(code), ["a", "b", "e"]);
     }
 
     #[test]
