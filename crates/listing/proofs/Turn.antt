@@ -13,7 +13,8 @@ use Rattle.line.specs.Receiving as spec
 use Rattle.line.specs.declared.Answer.the-variants.{One}
 use Rattle.line.specs.declared.Received.{Received}
 use Rattle.line.proofs.Laws.{item-removes, message-short}
-use Rattle.listing.specs.Text.{decimalLimit, lenOf}
+use Rattle.listing_words.specs.Words.{decimalLimit}
+use Rattle.listing.specs.Text.{lenOf}
 
 module _ (r : Received) (held new exit : List ℕ) (p : Receives r held new exit) (i : Item) (told : r .answer ≡ One i) where
   said : spec.receive held new .answer ≡ item (itemOf i)

@@ -2,7 +2,8 @@
 ghost use Prim.Native.Nat.{_≤_, _<_};
 ghost use lib.ListN.{length};
 ghost use Rattle.message.specs.Promises.{itemOf};
-ghost use Rattle.listing.specs.Text.{decimalLimit, lineRoom, lenOf};
+ghost use Rattle.listing_words.specs.Words.{decimalLimit};
+ghost use Rattle.listing.specs.Text.{lineRoom, lenOf};
 use crate::lines::LINE_ROOM;
 use crate::lines::put_end;
 use crate::lines::put_line;

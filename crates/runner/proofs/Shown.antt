@@ -10,10 +10,11 @@ use Rattle.message.proofs.Buffer.{lentFrom, tail}
 use Rattle.host_answers.specs.declared.PollAnswer.{PollAnswer}
 use Rattle.host_answers.specs.declared.ReceiveAnswer.{ReceiveAnswer}
 use Rattle.script.specs.Limits.{lentMax}
-use Rattle.transcript.proofs.Putting.{behind, wider}
+use Rattle.texts.proofs.Putting.{behind, wider}
 use Rattle.transcript.specs.Lines.{receiveText, pollText, endText, receiveRoom, pollRoom, endRoom}
-use Rattle.transcript.specs.Text.{Puts}
-use Rattle.runner.specs.Lent.{fill, touched, replyLength, dataLength, frameLength, receiveLine, pollLine}
+use Rattle.texts.specs.Text.{Puts}
+use Rattle.lent_lengths.specs.Lengths.{replyLength, dataLength, frameLength}
+use Rattle.runner.specs.Lent.{fill, touched, receiveLine, pollLine}
 use Rattle.runner.specs.Room.{lineRoom}
 
 -- a byte that is another

@@ -1,6 +1,6 @@
 // What is wrong with a script, said on standard error.
 use libc::STDERR_FILENO;
-use script::faults::Fault;
+use script_bytes::faults::Fault;
 
 // Says on standard error which line is wrong, and what is wrong with it.
 pub(crate) fn complain(number: u64, fault: Fault) {

@@ -2,7 +2,7 @@
 ghost use mathlib.Core.Path.{_≡_};
 ghost use Prim.Native.Nat.{_+_, _≤_, _<_};
 ghost use lib.ListN.{length};
-ghost use Rattle.runner.specs.Room.{lineRoom, Holds};
+ghost use Rattle.runner.specs.Room.{Holds};
 use crate::running::Ran;
 use crate::running::Session;
 use crate::running::no_session;
@@ -11,7 +11,7 @@ use crate::sheet::make_room;
 use crate::sheet::write_out;
 use endpoint::STORE_LENGTH;
 use libc::STDIN_FILENO;
-use script::faults::Fault;
+use script_bytes::faults::Fault;
 
 // How far a script is: the session, the number of the line that is gathered and how many bytes of it there are, how many bytes of
 // answers wait, and what comes next.

@@ -2,13 +2,15 @@
 ghost use mathlib.Core.Path.{_≡_};
 ghost use Prim.Native.Nat.{_+_, _≤_};
 ghost use lib.ListN.{length, take, drop};
-ghost use Rattle.transcript.specs.Text.{Puts};
+ghost use Rattle.texts.specs.Text.{Puts};
 ghost use Rattle.script.specs.Limits.{lentMax};
 ghost use Rattle.runner.specs.Room.{lineRoom};
-ghost use Rattle.runner.specs.Lent.{touched, handedBy, replyLength, dataLength, frameLength, receiveLine, pollLine};
+ghost use Rattle.runner.specs.Lent.{touched, receiveLine, pollLine};
 use host_answers::PollAnswer;
 use host_answers::ReceiveAnswer;
-use ledger::Word;
+use lent_lengths::data_length;
+use lent_lengths::frame_length;
+use lent_lengths::reply_length;
 use script::calls::LENT_MAX;
 use transcript::answers::put_end;
 use transcript::answers::put_polled;
@@ -53,56 +55,6 @@ pub(crate) fn put_poll(out: &mut [u8], at: usize, answer: PollAnswer, output: &[
     let sent = within(frame_length(answer), output);
     let end = put_polled(out, at, answer, &output[..sent]);
     put_end(out, end, is_touched(&output[sent..]))
-}
-
-// How many bytes of the reply buffer a receive says it has put.
-fn reply_length(answer: ReceiveAnswer) -> usize
-    ensures { λ r. ⌜ r ≡ replyLength answer ⌝ }
-{
-    match answer {
-        ReceiveAnswer::Refused(_) => 0,
-        ReceiveAnswer::Received(receipt) => receipt.replied,
-    }
-}
-
-// How many bytes of the data buffer.
-fn data_length(answer: ReceiveAnswer) -> usize
-    ensures { λ r. ⌜ r ≡ dataLength answer ⌝ }
-{
-    match answer {
-        ReceiveAnswer::Refused(_) => 0,
-        ReceiveAnswer::Received(receipt) => {
-            let word = receipt.word;
-            handed_by(word)
-        }
-    }
-}
-
-fn handed_by(word: Word) -> usize
-    ensures { λ r. ⌜ r ≡ handedBy word ⌝ }
-{
-    match word {
-        Word::Nothing => 0,
-        Word::Stray => 0,
-        Word::Repeat => 0,
-        Word::NotCommand => 0,
-        Word::Event(it) => it.len,
-        Word::Response(it) => it.len,
-        Word::Unmatched(_) => 0,
-    }
-}
-
-// How many bytes of the output a poll says it has put.
-fn frame_length(answer: PollAnswer) -> usize
-    ensures { λ r. ⌜ r ≡ frameLength answer ⌝ }
-{
-    match answer {
-        PollAnswer::Refused(_) => 0,
-        PollAnswer::Sent(len) => len,
-        PollAnswer::Ended(_) => 0,
-        PollAnswer::Quiet(_) => 0,
-        PollAnswer::NoDeadline => 0,
-    }
 }
 
 // A length that a call answered, or the buffer's where that is less.

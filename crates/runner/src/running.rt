@@ -16,7 +16,7 @@ use host::receive;
 use host::submit;
 use script::calls::Call;
 use script::calls::read_call;
-use script::faults::Fault;
+use script_bytes::faults::Fault;
 use transcript::answers::put_end;
 use transcript::answers::put_opened;
 use transcript::answers::put_submitted;

@@ -1,14 +1,11 @@
--- The digits of a script, one after the other.
+-- The decimal digits of a script, one after the other.
 use Prim.Native.Nat.{ℕ, _+_, _-_, _*_, _≤_, _<_}
-use mathlib.Core.List.{List, [], _∷_, _++_}
+use mathlib.Core.List.{List, [], _∷_}
 use mathlib.Core.Path.{_≡_, refl, sym, _∙_}
-use native.Mathlib.Numerals.{add-one}
 use native.Mathlib.Omega.{arith}
-use lib.ListN.{length, take, getD, set}
-use lib.Seq.{take-suc-set, append-snoc}
-use borrow.Author.Tests.{le-leb, lt-leb}
+use lib.ListN.{length, getD}
 use Rattle.message.proofs.Buffer.{lentFrom, tail}
-use Rattle.script.specs.Reading.{valueFrom, hexValue, bytesOf}
+use Rattle.script.specs.Reading.{valueFrom}
 
 -- one more decimal digit
 pub value-next : (v : ℕ) (s : List ℕ) → 0 < length s → valueFrom v s ≡ valueFrom (v * 10 + (getD s 0 0 - 48)) (lentFrom 1 s)
@@ -22,38 +19,7 @@ unfolding valueFrom
 value-end v [] none = refl
 value-end v (d ∷ s) none = omega arith
 
--- a digit up to 9, and one from a to f
-pub hex-low : (d : ℕ) → d ≤ 57 → hexValue d ≡ d - 48
-unfolding hexValue
-hex-low d low = rw (le-leb d 57 low)
-
-pub hex-high : (d : ℕ) → 57 < d → hexValue d ≡ d - 87
-unfolding hexValue
-hex-high d high = rw (lt-leb d 57 high)
-
--- one more pair
-pub bytes-next : (s : List ℕ) → 2 ≤ length s
-    → bytesOf s ≡ (hexValue (getD s 0 0) * 16 + hexValue (getD s 1 0)) ∷ bytesOf (lentFrom 2 s)
-unfolding bytesOf
-bytes-next [] some = let z : _≡_ {A = ℕ} 0 1 = omega arith in cc
-bytes-next (h ∷ []) some = let z : _≡_ {A = ℕ} 0 1 = omega arith in cc
-bytes-next (h ∷ l ∷ s) some = rw (tail 2 (h ∷ l ∷ s))
-
 -- a digit read, as the invariant of the loop over a number
 pub value-step : (v d : ℕ) (s all : List ℕ) → 0 < length s → d < 10 → (d < 10 → d ≡ getD s 0 0 - 48)
     → valueFrom v s ≡ valueFrom 0 all → valueFrom (v * 10 + d) (lentFrom 1 s) ≡ valueFrom 0 all
 value-step v d s all some small is inv = rw (is small) (sym (value-next v s some) ∙ inv)
-
--- a pair read, as the invariant of the loop over bytes
-pub bytes-step : (n h l : ℕ) (s all b : List ℕ) → n < length b → 2 ≤ length s → h < 16 → l < 16
-    → (h < 16 → h ≡ hexValue (getD s 0 0)) → (l < 16 → l ≡ hexValue (getD s 1 0))
-    → take n b ++ bytesOf s ≡ bytesOf all → take (n + 1) (set b n (h * 16 + l)) ++ bytesOf (lentFrom 2 s) ≡ bytesOf all
-bytes-step n h l s all b within some high low is and inv =
-    rw (add-one, take-suc-set b n (h * 16 + l) within, append-snoc (take n b) (h * 16 + l) (bytesOf (lentFrom 2 s)))
-    (rw (is high, and low, ← bytes-next s some) inv)
-
--- no more pairs
-pub bytes-end : (s : List ℕ) → length s ≤ 0 → bytesOf s ≡ []
-unfolding bytesOf
-bytes-end [] none = refl
-bytes-end (h ∷ s) none = let z : _≡_ {A = ℕ} 0 1 = omega arith in cc

@@ -1,8 +1,7 @@
 // A line of a script as a call. The bytes that a call names go to the front of a lent buffer; the call says how many they are.
-ghost use Prim.Native.Nat.{ℕ, _≤_};
+ghost use Prim.Native.Nat.{ℕ};
 ghost use lib.ListN.{length};
-ghost use Rattle.script.specs.Limits.{lentMax, Within};
-use crate::faults::Fault;
+ghost use Rattle.script.specs.Limits.{Within};
 use crate::fields::Cursor;
 use crate::fields::fault_at_end;
 use crate::fields::first_end;
@@ -10,6 +9,7 @@ use crate::fields::read_wanted;
 use crate::numbers::read_number;
 use crate::pairs::read_bytes;
 use command::Fields;
+use script_bytes::faults::Fault;
 
 // The most bytes of a lent buffer, and of the bytes that a call names.
 pub const LENT_MAX: usize = 4096;

@@ -2,7 +2,7 @@
 ghost use mathlib.Core.Path.{_≡_};
 ghost use Prim.Native.Nat.{_≤_};
 ghost use lib.ListN.{length};
-use crate::faults::Fault;
+use script_bytes::faults::Fault;
 
 // How far a line was read: behind the last field, and what was wrong first.
 pub(crate) struct Cursor {

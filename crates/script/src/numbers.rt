@@ -2,9 +2,9 @@
 ghost use mathlib.Core.Path.{_≡_};
 ghost use Prim.Native.Nat.{_-_, _≤_, _<_};
 ghost use Rattle.script.specs.Reading.{valueFrom};
-use crate::faults::Fault;
 use crate::fields::Cursor;
 use crate::fields::next_field;
+use script_bytes::faults::Fault;
 
 // A number that was read, at most what was asked for; 0 where something is wrong.
 pub(crate) struct Number {

@@ -7,10 +7,6 @@ use Rattle.message.specs.declared.Item.{Item}
 use Rattle.message.specs.declared.Item.the-variants.{DamagedHeader, Forbidden, DamagedPayload, Message}
 use Rattle.line.specs.declared.Answer.{Answer}
 use Rattle.line.specs.declared.Answer.the-variants.{More, One}
-use Rattle.command.specs.declared.Fields.{Fields}
-use Rattle.ledger.specs.declared.Cause.{Cause}
-use Rattle.ledger.specs.declared.Cause.the-variants.{Acknowledged, Response, NoResponse, NoAcknowledgement}
-use Rattle.ledger.specs.declared.Ending.{Ending}
 use Rattle.host_answers.specs.declared.OpenAnswer.{OpenAnswer}
 use Rattle.host_answers.specs.declared.OpenAnswer.the-variants as opening
 use Rattle.host_answers.specs.declared.SubmitAnswer.{SubmitAnswer}
@@ -25,7 +21,8 @@ use Rattle.host_answers.specs.declared.ReceiveAnswer.{ReceiveAnswer}
 use Rattle.host_answers.specs.declared.ReceiveAnswer.the-variants as receiving
 use Rattle.host_answers.specs.declared.PollAnswer.{PollAnswer}
 use Rattle.host_answers.specs.declared.PollAnswer.the-variants as polling
-use Rattle.transcript.specs.Text.{ascii, named, shownAs, pairsRoom}
+use Rattle.texts.specs.Text.{ascii, named, shownAs, pairsRoom}
+use Rattle.transcript_parts.specs.Parts.{fieldsText, endingText}
 
 -- a message, with TYPE, SEQ and LEN, or what was found in its place
 unfoldable pub oneText : Item → List ℕ
@@ -38,14 +35,6 @@ oneText (Message type seq len) = named (ascii "message ") type ++ (named (ascii 
 unfoldable pub itemText : Answer → List ℕ
 itemText More = ascii "more"
 itemText (One i) = oneText i
-
--- TC, TID and SID
-unfoldable pub addressText : Fields → List ℕ
-addressText f = named (ascii " ") (f .tc) ++ (named (ascii " ") (f .tid) ++ named (ascii " ") (f .sid))
-
--- these, then IID and CID
-unfoldable pub fieldsText : Fields → List ℕ
-fieldsText f = addressText f ++ (named (ascii " ") (f .iid) ++ named (ascii " ") (f .cid))
 
 -- a command behind its word: its fields, RQID and the length of its data
 unfoldable pub commandText : List ℕ → Command → List ℕ
@@ -64,17 +53,6 @@ wordText (words.Unmatched c) = commandText (ascii " unmatched") c
 -- a length and bytes behind a name
 unfoldable pub lentText : List ℕ → ℕ → List ℕ → List ℕ
 lentText name len bytes = named name len ++ (ascii " " ++ shownAs bytes)
-
--- why a request ended
-unfoldable pub causeText : Cause → List ℕ
-causeText Acknowledged = ascii " acknowledged"
-causeText Response = ascii " response"
-causeText NoResponse = ascii " no-response"
-causeText NoAcknowledgement = ascii " no-acknowledgement"
-
--- an ending
-unfoldable pub endingText : Ending → List ℕ
-endingText e = named (ascii "ended ") (e .id .0) ++ causeText (e .cause)
 
 -- the ending that a receive reports
 unfoldable pub endedText : Ended → List ℕ
@@ -125,12 +103,6 @@ endText false = ascii "\n"
 abbrev pub itemRoom : ℕ
 itemRoom = 70
 
-abbrev pub addressRoom : ℕ
-addressRoom = 63
-
-abbrev pub fieldsRoom : ℕ
-fieldsRoom = 105
-
 abbrev pub commandRoom : List ℕ → ℕ
 commandRoom w = length w + 147
 
@@ -142,12 +114,6 @@ judgedRoom = 236
 
 abbrev pub lentRoom : List ℕ → List ℕ → ℕ
 lentRoom name bytes = length name + (22 + pairsRoom bytes)
-
-abbrev pub causeRoom : ℕ
-causeRoom = 19
-
-abbrev pub endingRoom : ℕ
-endingRoom = 45
 
 abbrev pub endedRoom : ℕ
 endedRoom = 46

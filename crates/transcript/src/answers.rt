@@ -2,16 +2,13 @@
 // for room, which the caller has seen to.
 ghost use Prim.Native.Nat.{_+_, _≤_};
 ghost use lib.ListN.{length};
-ghost use Rattle.transcript.specs.Text.{Puts};
+ghost use Rattle.texts.specs.Text.{Puts};
 ghost use Rattle.transcript.specs.Lines.{openText, submitText, judgedText, receiptText, receiveText, pollText, endText};
 ghost use Rattle.transcript.specs.Lines.{openRoom, submitRoom, judgedRoom, receiveRoom, pollRoom, endRoom};
 use crate::parts::put_ended;
-use crate::parts::put_ending;
 use crate::parts::put_item;
 use crate::parts::put_lent;
 use crate::parts::put_word;
-use crate::text::put;
-use crate::text::put_named;
 use host_answers::OpenAnswer;
 use host_answers::PollAnswer;
 use host_answers::Receipt;
@@ -19,6 +16,9 @@ use host_answers::ReceiveAnswer;
 use host_answers::SubmitAnswer;
 use ledger::Word;
 use line::Answer;
+use texts::put;
+use texts::put_named;
+use transcript_parts::put_ending;
 
 // Open.
 pub fn put_opened(out: &mut [u8], at: usize, answer: OpenAnswer) -> usize

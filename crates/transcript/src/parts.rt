@@ -1,23 +1,20 @@
 // The parts of an answer as text, each put behind the first `at` bytes of a lent buffer. Each answers where it ends.
 ghost use Prim.Native.Nat.{_+_, _≤_};
 ghost use lib.ListN.{length};
-ghost use Rattle.transcript.specs.Text.{Puts};
-ghost use Rattle.transcript.specs.Lines.{oneText, itemText, addressText, fieldsText, commandText, wordText, lentText};
-ghost use Rattle.transcript.specs.Lines.{causeText, endingText, endedText};
-ghost use Rattle.transcript.specs.Lines.{itemRoom, addressRoom, fieldsRoom, commandRoom, wordRoom, lentRoom};
-ghost use Rattle.transcript.specs.Lines.{causeRoom, endingRoom, endedRoom};
-use crate::text::put;
-use crate::text::put_bytes;
-use crate::text::put_named;
-use command::Fields;
+ghost use Rattle.texts.specs.Text.{Puts};
+ghost use Rattle.transcript.specs.Lines.{oneText, itemText, commandText, wordText, lentText, endedText};
+ghost use Rattle.transcript.specs.Lines.{itemRoom, commandRoom, wordRoom, lentRoom, endedRoom};
 use host_answers::Ended;
-use ledger::Cause;
 use ledger::Command;
-use ledger::Ending;
 use ledger::Word;
 use line::Answer;
 use message::Item;
 use message::Seq;
+use texts::put;
+use texts::put_bytes;
+use texts::put_named;
+use transcript_parts::put_ending;
+use transcript_parts::put_fields;
 
 // The item, or `more`.
 pub(crate) fn put_item(out: &mut [u8], at: usize, answer: Answer) -> usize
@@ -81,24 +78,6 @@ fn put_command(out: &mut [u8], at: usize, word: &[u8], it: Command) -> usize
     put_named(out, end, b" ", it.len as u64)
 }
 
-fn put_fields(out: &mut [u8], at: usize, fields: Fields) -> usize
-    requires { ⌜ at + fieldsRoom ≤ length (now out) ⌝ }
-    ensures { λ r. ⌜ Puts fieldsRoom at (fieldsText fields) (now (out .entry)) (now (out .exit)) r ⌝ }
-{
-    let end = put_address(out, at, fields);
-    let end = put_named(out, end, b" ", fields.iid as u64);
-    put_named(out, end, b" ", fields.cid as u64)
-}
-
-fn put_address(out: &mut [u8], at: usize, fields: Fields) -> usize
-    requires { ⌜ at + addressRoom ≤ length (now out) ⌝ }
-    ensures { λ r. ⌜ Puts addressRoom at (addressText fields) (now (out .entry)) (now (out .exit)) r ⌝ }
-{
-    let end = put_named(out, at, b" ", fields.tc as u64);
-    let end = put_named(out, end, b" ", fields.tid as u64);
-    put_named(out, end, b" ", fields.sid as u64)
-}
-
 // A length and bytes behind a name.
 pub(crate) fn put_lent(out: &mut [u8], at: usize, name: &[u8], len: usize, shown: &[u8]) -> usize
     requires { ⌜ at + lentRoom (now name) (now shown) ≤ length (now out) ⌝ }
@@ -121,28 +100,5 @@ pub(crate) fn put_ended(out: &mut [u8], at: usize, ended: Ended) -> usize
             let end = put(out, at, b" ");
             put_ending(out, end, ending)
         }
-    }
-}
-
-// An ending: its request ID and its cause.
-pub(crate) fn put_ending(out: &mut [u8], at: usize, ending: Ending) -> usize
-    requires { ⌜ at + endingRoom ≤ length (now out) ⌝ }
-    ensures { λ r. ⌜ Puts endingRoom at (endingText ending) (now (out .entry)) (now (out .exit)) r ⌝ }
-{
-    let id = ending.id;
-    let cause = ending.cause;
-    let end = put_named(out, at, b"ended ", id.0 as u64);
-    put_cause(out, end, cause)
-}
-
-fn put_cause(out: &mut [u8], at: usize, cause: Cause) -> usize
-    requires { ⌜ at + causeRoom ≤ length (now out) ⌝ }
-    ensures { λ r. ⌜ Puts causeRoom at (causeText cause) (now (out .entry)) (now (out .exit)) r ⌝ }
-{
-    match cause {
-        Cause::Acknowledged => put(out, at, b" acknowledged"),
-        Cause::Response => put(out, at, b" response"),
-        Cause::NoResponse => put(out, at, b" no-response"),
-        Cause::NoAcknowledgement => put(out, at, b" no-acknowledgement"),
     }
 }

@@ -2,7 +2,7 @@
 use native.Mathlib.Omega.{arith}
 use borrow.Author.Needs.{needs}
 use Rattle.transcript.specs.Lines.{endText}
-use Rattle.transcript.proofs.Putting.{wider}
+use Rattle.texts.proofs.Putting.{wider}
 use Rattle.transcript.proofs.answers.put_end.Statement.{statement}
 use Rattle.transcript.proofs.answers.put_end.Tie as tie
 

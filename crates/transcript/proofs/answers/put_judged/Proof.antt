@@ -1,7 +1,7 @@
 -- `transcript::answers::put_judged` meets its contract: its parts, one behind the other.
 use borrow.Author.Needs.{needs}
 use Rattle.transcript.specs.Lines.{judgedText}
-use Rattle.transcript.proofs.Putting.{behind}
+use Rattle.texts.proofs.Putting.{behind}
 use Rattle.transcript.proofs.answers.put_judged.Statement.{statement}
 use Rattle.transcript.proofs.answers.put_judged.Tie as tie
 

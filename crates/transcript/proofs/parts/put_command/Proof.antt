@@ -2,7 +2,7 @@
 use native.Mathlib.Omega.{arith}
 use borrow.Author.Needs.{needs}
 use Rattle.transcript.specs.Lines.{commandText}
-use Rattle.transcript.proofs.Putting.{wider, behind}
+use Rattle.texts.proofs.Putting.{wider, behind}
 use Rattle.transcript.proofs.parts.put_command.Statement.{statement}
 use Rattle.transcript.proofs.parts.put_command.Tie as tie
 

@@ -2,7 +2,7 @@
 use native.Mathlib.Omega.{arith}
 use borrow.Author.Needs.{needs}
 use Rattle.transcript.specs.Lines.{lentText}
-use Rattle.transcript.proofs.Putting.{wider, behind}
+use Rattle.texts.proofs.Putting.{wider, behind}
 use Rattle.transcript.proofs.parts.put_lent.Statement.{statement}
 use Rattle.transcript.proofs.parts.put_lent.Tie as tie
 

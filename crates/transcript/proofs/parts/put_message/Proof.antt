@@ -1,7 +1,7 @@
 -- `transcript::parts::put_message` meets its contract: TYPE, SEQ and LEN, one behind the other.
 use borrow.Author.Needs.{needs}
 use Rattle.transcript.specs.Lines.{oneText}
-use Rattle.transcript.proofs.Putting.{behind}
+use Rattle.texts.proofs.Putting.{behind}
 use Rattle.transcript.proofs.parts.put_message.Statement.{statement}
 use Rattle.transcript.proofs.parts.put_message.Tie as tie
 

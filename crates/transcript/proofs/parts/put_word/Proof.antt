@@ -2,7 +2,7 @@
 use native.Mathlib.Omega.{arith}
 use borrow.Author.Needs.{needs}
 use Rattle.transcript.specs.Lines.{wordText}
-use Rattle.transcript.proofs.Putting.{wider}
+use Rattle.texts.proofs.Putting.{wider}
 use Rattle.transcript.proofs.parts.put_word.Statement.{statement}
 use Rattle.transcript.proofs.parts.put_word.Tie as tie
 

@@ -1,0 +1,21 @@
+-- `texts::digit` meets its contract: below ten, and from there on.
+use native.Mathlib.Omega.{arith}
+use borrow.Author.Needs.{needs}
+use borrow.Author.Tests.{lt-ltb, le-ltb}
+use Rattle.texts.proofs.digit.Statement.{statement}
+use Rattle.texts.proofs.digit.Tie as tie
+
+add-result : tie.Need-add-result
+add-result c = search needs
+
+returns : tie.Need-returns
+returns c = rw (lt-ltb (c .before .args .value) 10 (c .if1 .taken))
+
+add-result-2 : tie.Need-add-result-2
+add-result-2 c = search needs
+
+returns-2 : tie.Need-returns-2
+returns-2 c = rw (le-ltb (c .before .args .value) 10 (c .if1 .left)) (omega arith)
+
+pub digit-spec : {M : Type 1} → statement M
+digit-spec = tie.close (tie.spec add-result returns add-result-2 returns-2)
