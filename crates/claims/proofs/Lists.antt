@@ -1,8 +1,8 @@
 -- Properties of every element of a list, and of lists put together.
-use Prim.Native.Nat.{ℕ, suc, _+_}
+use Prim.Native.Nat.{_+_}
 use mathlib.Core.List.{List, [], _∷_, _++_}
 use mathlib.Core.Path.{_≡_, refl, ap}
-use lib.ListN.{length, take, drop}
+use lib.ListN.{length, take}
 use Rattle.claims.specs.Clauses.{All, _∈_, here, there}
 
 module _ {A : Type 0} where

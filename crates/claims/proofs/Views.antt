@@ -29,7 +29,7 @@ use Rattle.ledger.specs.Receiving.{Act, only, frameIn, flies, provided, acknowl
 use Rattle.ledger.specs.Polling as polling
 use Rattle.ledger.specs.Polling.{frameBytes, polledAs, overdueIn, queuedIn, earliest, orElse, step1, step2, step3, step4}
 use Rattle.ledger.specs.Calls.{Call, submit, receive, poll, readingOf, lentBy}
-use Rattle.ledger.specs.Refusals.{malformed, firstOf, lines, refusal}
+use Rattle.ledger.specs.Refusals.{malformed, firstOf, refusal}
 use Rattle.ledger.specs.Runs.{step, answersTo}
 use Rattle.claims.specs.Trace.{isAccepted, idIn, endingIn, first, sentIn}
 use Rattle.claims.proofs.Cases.{by-test}

@@ -1,7 +1,6 @@
 // What an end of the line puts into a lent buffer: the frame of a command, and replies (document 01, **Receive**, **Poll** 3). Both
 // ends send so.
 ghost use mathlib.Core.List.{[]};
-ghost use mathlib.Core.Path.{_≡_};
 ghost use Prim.Native.Nat.{_≤_};
 ghost use lib.ListN.{length};
 ghost use Rattle.message.specs.Bytes.{message, total, maxLen, ack, nak, dataSeq};

@@ -2,18 +2,15 @@
 use Prim.Native.Nat.{ℕ, suc, _≤_, _<_}
 use mathlib.Core.Bool.{false}
 use mathlib.Core.List.{List, []}
-use mathlib.Core.Option.{none, some}
-use mathlib.Core.Path.{_≡_, refl, sym, ap, _∙_}
+use mathlib.Core.Path.{_≡_, ap, _∙_}
 use native.Mathlib.Omega.{arith}
 use lib.Dec.{ltb}
 use borrow.Author.Tests.{lt-ltb, le-ltb}
-use Rattle.line.specs.Receiving.{heldMax}
 use Rattle.link.specs.Promises.{seenOf}
 use Rattle.link.specs.Repeats.{noneSeen}
 use Rattle.link.specs.SequenceIds.{firstSeq}
-use Rattle.ledger.specs.Parts.{liveMax, reservedMax, Ledger, fresh}
-use Rattle.ledger.specs.Answers.{refused, opened, Done}
-use Rattle.ledger.specs.Refusals.{firstOf, openLines}
+use Rattle.ledger.specs.Parts.{liveMax, reservedMax, fresh}
+use Rattle.ledger.specs.Answers.{refused, opened}
 use Rattle.ledger.specs.Refusals as ledger
 use Rattle.ledger.specs.Runs.{open-for, openedBy}
 use Rattle.claims.proofs.Fine.{fresh-fine, not-malformed}

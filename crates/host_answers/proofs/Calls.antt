@@ -13,7 +13,7 @@ use Rattle.endpoint.specs.Malformed.{malformed}
 use Rattle.endpoint.specs.declared.Endpoint.{Endpoint}
 use Rattle.refinement.specs.Refusals.{refusalOf}
 use Rattle.refinement.proofs.Sound.{next-sound}
-use Rattle.host_answers.specs.Promises.{Outcome, Refuses, Meets, ByTable, Promise}
+use Rattle.host_answers.specs.Promises.{Outcome, Refuses, ByTable, Promise}
 use Rattle.refusals.specs.Code.{checkOf, withEndpoint}
 use Rattle.refusals.proofs.Table.{passed}
 use Rattle.host_answers.specs.Code.{Sound, Does}

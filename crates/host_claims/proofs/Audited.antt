@@ -2,9 +2,9 @@
 use Prim.Native.Nat.{ℕ}
 use mathlib.Core.List.{List}
 use mathlib.Core.Option.{none}
-use mathlib.Core.Path.{_≡_, sym, ap, subst, _∙_}
-use Rattle.ledger.specs.Parts.{liveMax, Ledger}
-use Rattle.ledger.specs.Runs.{Entry, reservedFor, start, run}
+use mathlib.Core.Path.{_≡_, ap, subst, _∙_}
+use Rattle.ledger.specs.Parts.{Ledger}
+use Rattle.ledger.specs.Runs.{Entry, reservedFor}
 use Rattle.claims.proofs.Laws.{ledger-claims-3}
 use Rattle.audit.specs.Audit.{audit}
 use Rattle.endpoint.specs.Endpoint.{rowsOf}

@@ -1,15 +1,13 @@
 -- Demand 2 for receive: an accepted one gives the line's item, takes the line's bytes and holds what the line holds.
 use Prim.Native.Nat.{ℕ}
 use mathlib.Core.List.{List}
-use mathlib.Core.Option.{none}
-use mathlib.Core.Path.{_≡_, refl, ap, _∙_}
+use mathlib.Core.Path.{refl, ap}
 use Rattle.ledger.specs.Parts.{Ledger}
 use Rattle.ledger.specs.Receiving as ledger
 use Rattle.ledger.specs.Calls.{receive}
 use Rattle.ledger.specs.Runs.{accepts}
 use Rattle.endpoint.specs.Endpoint.{ledgerOf}
 use Rattle.endpoint.specs.declared.Endpoint.{Endpoint}
-use Rattle.refinement.specs.Refusals.{refusalOf}
 use Rattle.host_answers.specs.Promises.{Meets, receiveOutcome}
 use Rattle.host_answers.specs.Promises as promise
 use Rattle.host_answers.specs.declared.Received.{Received}

@@ -4,10 +4,9 @@ use mathlib.Core.Bool.{false}
 use mathlib.Core.List.{List, [], _∷_, _++_}
 use mathlib.Core.Option.{Option, none, some}
 use mathlib.Core.Path.{_≡_, refl, sym, ap, _∙_}
-use lib.ListN.{length}
 use Rattle.ledger.specs.Parts.{liveMax, Ledger}
 use Rattle.ledger.specs.Answers.{Answer, refused, Done}
-use Rattle.ledger.specs.Calls.{Call, submit, receive, poll, lentBy}
+use Rattle.ledger.specs.Calls.{Call, lentBy}
 use Rattle.ledger.specs.Refusals.{refusal}
 use Rattle.ledger.specs.Runs.{open-for, accepts, answersTo, step, Entry, Run, start, then, run}
 use Rattle.endpoint.specs.Endpoint.{ledgerOf}

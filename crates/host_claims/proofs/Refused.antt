@@ -2,19 +2,19 @@
 use Prim.Native.Nat.{ℕ}
 use mathlib.Core.Bool.{Bool, true, false}
 use mathlib.Core.List.{List}
-use mathlib.Core.Option.{Option, none, some}
+use mathlib.Core.Option.{some}
 use mathlib.Core.Path.{_≡_, refl, sym, ap, _∙_}
 use Rattle.ledger.specs.Parts.{liveMax}
-use Rattle.ledger.specs.Answers.{Answer, refused}
+use Rattle.ledger.specs.Answers.{refused}
 use Rattle.ledger.specs.Calls.{Call}
 use Rattle.ledger.specs.Refusals.{firstOf}
 use Rattle.claims.proofs.Laws.{refused-by-table}
 use Rattle.endpoint.specs.Endpoint.{ledgerOf}
 use Rattle.endpoint.specs.Malformed.{malformed}
 use Rattle.endpoint.specs.declared.Endpoint.{Endpoint}
-use Rattle.refinement.specs.Refusals.{lines, refusalOf}
+use Rattle.refinement.specs.Refusals.{refusalOf}
 use Rattle.refinement.proofs.Sound.{same-refusal}
-use Rattle.host_answers.specs.Promises.{Outcome, Refuses, ByTable, Promise}
+use Rattle.host_answers.specs.Promises.{Outcome, Refuses, Promise}
 use Rattle.host_claims.proofs.Refining.{steps}
 
 module _ (e : Endpoint) (store : List ℕ) (c : Call) (o : Outcome) (promised : Promise e store c o) where

@@ -15,10 +15,13 @@ use host_answers::ReceiveAnswer;
 use host_answers::SubmitAnswer;
 use ledger::Word;
 use line::Answer;
+use message::header::MAX_LEN;
+use message::header::OVERHEAD;
 
-pub(crate) const REPLY_LENGTH: usize = 10;
+// The shortest buffers that no call refuses: a message without a payload, and the longest.
+pub(crate) const REPLY_LENGTH: usize = OVERHEAD;
 
-pub(crate) const OUTPUT_LENGTH: usize = 266;
+pub(crate) const OUTPUT_LENGTH: usize = OVERHEAD + MAX_LEN;
 
 const RESERVED: u64 = 38;
 

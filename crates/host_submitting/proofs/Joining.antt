@@ -6,9 +6,8 @@ use mathlib.Core.Option.{none}
 use mathlib.Core.Path.{_≡_, refl, sym, ap, _∙_}
 use native.Mathlib.Omega.{arith}
 use lib.Dec.{eqb, ltb}
-use lib.ListN.{length, take}
+use lib.ListN.{length}
 use borrow.Author.Tests.{eqb-false, ltb-false}
-use Rattle.line.specs.Receiving.{heldMax}
 use Rattle.command.specs.Payload as payload
 use Rattle.command.specs.Payload.{maxData}
 use Rattle.command.specs.Promises.{fieldsOf}

@@ -1,6 +1,5 @@
 // Submit (document 01, **Submit**), with the store as a slice of its length: for `host`, which lends it by its type.
 ghost use mathlib.Core.Path.{_≡_};
-ghost use mathlib.Core.List.{[]};
 ghost use Prim.Native.Nat.{_≤_, _<_};
 ghost use lib.ListN.{length};
 ghost use Rattle.command.specs.Payload.{maxData};

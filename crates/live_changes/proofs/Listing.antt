@@ -9,7 +9,6 @@ use lib.Dec.{ltb}
 use lib.ListN.{length, take, getD, set}
 use borrow.Author.Tests.{ltb-false, le-ltb}
 use Rattle.command.specs.Payload.{maxData}
-use Rattle.ledger.specs.Parts as ledger
 use Rattle.ledger.specs.Parts.{liveMax}
 use Rattle.endpoint.specs.Endpoint.{roomAt, requestOf, requestsFrom}
 use Rattle.endpoint.specs.Malformed.{tooLong}

@@ -1,10 +1,10 @@
 -- Where a search finds: the first row that passes a test is the ledger's "oldest" that shows something, and what ignores the data of
 -- requests finds the same in the rows without them.
-use Prim.Native.Nat.{ℕ, zero, suc, _+_, _≤_, _<_}
+use Prim.Native.Nat.{ℕ, zero, suc, _≤_, _<_}
 use mathlib.Core.Bool.{Bool, true, false, true≢false, cond as if}
 use mathlib.Core.List.{List, [], _∷_}
 use mathlib.Core.Option.{Option, none, some}
-use mathlib.Core.Path.{_≡_, refl, sym, ap, _∙_}
+use mathlib.Core.Path.{_≡_, refl, sym, _∙_}
 use native.Mathlib.Omega.{arith}
 use lib.ListN.{length, take, drop, getD}
 use Rattle.command.specs.Promises.{fieldsOf}
@@ -17,7 +17,6 @@ use Rattle.ledger.specs.Receiving.{provided, matches}
 use Rattle.endpoint.specs.Endpoint.{requestOf, roomAt, requestsFrom}
 use Rattle.endpoint.specs.Places.{blank}
 use Rattle.endpoint.specs.declared.Request.{Request}
-use Rattle.endpoint.proofs.Rows.{blankRow}
 use Rattle.live_search.specs.Searching.{isShown, shows, firstWhere}
 use Rattle.live_search.specs.declared.Query.{Query}
 use Rattle.live_search.specs.declared.Query.the-variants.{Overdue, Flying, Queued, Acknowledged, Answered}

@@ -42,6 +42,14 @@ impl Gate {
     }
 }
 
+/// Where the prover's first error stands, as its log says it: rt's own line names no place where the repository's path has a space.
+pub fn first_error(name: &str, log: &str) -> Option<String> {
+    let inside = format!("/must-fail/{name}/");
+    let behind = |place: &str| place.rfind(&inside).map(|at| place[at + inside.len()..].to_string());
+    let error = log.lines().find_map(|l| behind(l.split_once(": error")?.0));
+    error.or_else(|| log.lines().find_map(|l| behind(l.strip_prefix("note: ")?.split_once(": ")?.0)))
+}
+
 /// Reads the log. A log that does not end in `N passed, 0 failed`, or whose lines are not those N, is refused.
 pub fn read(log: &str) -> Result<Gate, String> {
     let mut gate = Gate::default();
@@ -140,6 +148,15 @@ rt: ok, 2 crates proved, 2 must-fail edits refused
         assert_eq!((gate.edits[1].place.clone(), gate.edits[1].seconds), (None, 6));
         assert_eq!(gate.programs, ["shown"]);
         assert_eq!(gate.refused(), ["one/wrong", "one/other"]);
+    }
+
+    #[test]
+    fn the_place_of_a_first_error() {
+        let log = "note: no function is declared\n/a folder/target/must-fail/one/wrong/proofs/f/Proof.antt:9:84: error: `x`: differs\n";
+        assert_eq!(first_error("one/wrong", log).as_deref(), Some("proofs/f/Proof.antt:9:84"));
+        let noted = "note: /a folder/target/must-fail/one/wrong/src/lib.rt:7:1: what antt said\nlogic=not-proved\n";
+        assert_eq!(first_error("one/wrong", noted).as_deref(), Some("src/lib.rt:7:1"));
+        assert_eq!(first_error("one/wrong", "logic=not-proved\n"), None);
     }
 
     #[test]

@@ -64,7 +64,11 @@ fn without_place(line: String) -> String {
 }
 
 fn made(record: &Record) -> Result<String, String> {
-    let gate = gate::read(&tree::text(".ci/rt-ci.log")?)?;
+    let mut gate = gate::read(&tree::text(".ci/rt-ci.log")?)?;
+    for edit in &mut gate.edits {
+        let log = tree::text(&format!("target/must-fail/{}/.log", edit.name))?;
+        edit.place = gate::first_error(&edit.name, &log).or(edit.place.take());
+    }
     if gate.last != record.passed {
         return Err("the record and the log are not of one gate".to_string());
     }

@@ -1,7 +1,5 @@
 -- `host::open` meets its contract: refusal 3 with the fresh endpoint for R = 0, or the fresh endpoint for R.
-use mathlib.Core.List.{List}
 use mathlib.Core.Path.{sym, ap, _∙_}
-use Prim.Native.Nat.{ℕ}
 use borrow.Author.Needs.{needs}
 use Rattle.ledger.specs.Answers.{Done}
 use Rattle.host.proofs.Fresh.{open-refused, open-accepted}

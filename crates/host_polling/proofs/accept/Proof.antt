@@ -1,5 +1,4 @@
 -- `host_polling::accept` meets its contract: the step that was decided is carried out.
-use mathlib.Core.Path.{refl}
 use borrow.Author.Needs.{needs}
 use denote.Ref.{now}
 use Rattle.link.specs.Promises.{frameOf}

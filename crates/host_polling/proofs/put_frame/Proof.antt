@@ -1,7 +1,7 @@
 -- `host_polling::put_frame` meets its contract: the request's fields, ID and data, with the frame's SEQ.
-use Prim.Native.Nat.{ℕ, _+_, _-_, _*_, _≤_, _<_}
+use Prim.Native.Nat.{ℕ, _+_, _-_, _≤_, _<_}
 use mathlib.Core.List.{List}
-use mathlib.Core.Path.{_≡_, refl, sym, ap, _∙_}
+use mathlib.Core.Path.{_≡_, sym, _∙_}
 use native.Mathlib.Omega.{arith}
 use lib.ListN.{length, take, drop, getD, length-map, length-take}
 use borrow.Author.Needs.{needs}
@@ -11,9 +11,8 @@ use Rattle.command.specs.Payload.{maxData, payload}
 use Rattle.command.specs.Promises.{fieldsOf}
 use Rattle.ledger.specs.Parts.{liveMax}
 use Rattle.ledger.specs.Polling.{frameBytes}
-use Rattle.endpoint.specs.Endpoint.{roomPlace, roomAt, storeLength, liveOf}
+use Rattle.endpoint.specs.Endpoint.{roomPlace, liveOf}
 use Rattle.endpoint.specs.Places.{at, Fits}
-use Rattle.endpoint.specs.declared.Request.{Request}
 use Rattle.endpoint.specs.declared.Requests.{Requests}
 use Rattle.endpoint.proofs.Rows.{blankRow}
 use Rattle.live_changes.proofs.Becoming.{live-at, len-at}

@@ -1,6 +1,5 @@
 -- `host_submitting::accept` meets its contract: the ID is the ledger's, and the request joins.
 use mathlib.Core.Path.{_≡_, refl, sym, _∙_}
-use native.Mathlib.Omega.{arith}
 use lib.ListN.{length, length-map}
 use borrow.Author.Needs.{needs}
 use denote.Ref.{now}

@@ -3,7 +3,6 @@ use Prim.Native.Nat.{_+_, _-_, _≤_}
 use mathlib.Core.Path.{_≡_, sym, _∙_}
 use native.Mathlib.Omega.{arith}
 use lib.ListN.{length, length-map, drop}
-use borrow.Author.Needs.{needs}
 use Rattle.ledger.specs.Refusals.{flights}
 use Rattle.endpoint.specs.Endpoint.{rowsOf}
 use Rattle.endpoint.specs.Malformed.{bareOf}

@@ -1,7 +1,7 @@
 -- `endpoint::rule::is_among` meets its contract: the rows left give the answer.
 use Prim.Native.Nat.{ℕ, _+_, _-_, _≤_}
 use mathlib.Core.Bool.{Bool, _||_}
-use mathlib.Core.Path.{_≡_, refl, sym, ap, _∙_}
+use mathlib.Core.Path.{_≡_, sym, ap, _∙_}
 use native.Mathlib.Omega.{arith}
 use lib.ListN.{length, length-map, drop}
 use Rattle.ledger.specs.Submitting.{isLive}

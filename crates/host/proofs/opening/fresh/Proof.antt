@@ -7,33 +7,22 @@ use Rattle.endpoint.specs.declared.Endpoint.{Endpoint}
 use Rattle.host.proofs.Fresh.{fresh-ledger, fresh-sound}
 use Rattle.host.proofs.opening.fresh.Statement.{statement}
 use Rattle.host.proofs.opening.fresh.Tie as tie
-use Rattle.host.proofs.opening.fresh.Reads as reads
-use Rattle.host.proofs.opening.fresh.Lts as lts
-use Rattle.host.proofs.opening.no_requests.Reads as no-requests-reads
-use Rattle.link.proofs.repeats.Seen.none.Reads as none-reads
-use Rattle.link.proofs.sequence.first.Reads as first-reads
 
--- src/opening.rt:47:9
 no-requests-requires : tie.Need-no-requests-requires
 no-requests-requires c κs = search needs
 
--- src/opening.rt:48:9
 first-requires : tie.Need-first-requires
 first-requires c κs = search needs
 
--- src/opening.rt:49:26
 cast-t6 : tie.Need-cast-t6
 cast-t6 c = search needs
 
--- src/opening.rt:49:26
 add-t7 : tie.Need-add-t7
 add-t7 c = search needs
 
--- src/opening.rt:50:9
 none-requires : tie.Need-none-requires
 none-requires c κs = search needs
 
--- src/opening.rt:43:1
 returns : tie.Need-returns
 returns c =
     let r = c .before .before .before .args .reserved in
