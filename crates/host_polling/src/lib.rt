@@ -4,35 +4,29 @@ ghost use mathlib.Core.List.{List};
 ghost use Prim.Native.Nat.{ℕ, _≤_, _<_};
 ghost use lib.ListN.{length};
 ghost use Rattle.message.specs.Bytes.{total, maxLen};
-ghost use Rattle.link.specs.Promises.{frameOf};
 ghost use Rattle.ledger.specs.Polling as ledger;
-ghost use Rattle.ledger.specs.Polling.{frameBytes, step4, polledAs};
-ghost use Rattle.endpoint.specs.Endpoint.{storeLength, ledgerOf, liveOf};
-ghost use Rattle.endpoint.specs.Places.{at, Fits};
-ghost use Rattle.frames.specs.Promises.{Put};
+ghost use Rattle.ledger.specs.Polling.{step4, polledAs};
+ghost use Rattle.endpoint.specs.Endpoint.{storeLength, ledgerOf};
 ghost use Rattle.host_answers.specs.Promises as promise;
 ghost use Rattle.host_answers.specs.Promises.{pollOutcome};
 ghost use Rattle.host_answers.specs.Code.{Sound, Ready, Does};
-ghost use Rattle.decisions_poll.specs.Steps.{stepOf, sentFrom};
+ghost use Rattle.decisions_poll.specs.Steps.{stepOf};
 ghost use Rattle.decisions_poll.specs.declared.Step.the-variants.{End};
 use decisions_poll::Step;
 use decisions_poll::next_step;
 use endpoint::Endpoint;
-use endpoint::Requests;
-use endpoint::State;
-use frames::put_command;
 use host_answers::PollAnswer;
 use host_answers::Polled;
+use host_sending::after;
+use host_sending::send;
 use ledger::Cause;
 use ledger::Ending;
 use link::frame::Frame;
 use link::sequence;
 use live_changes::Change;
 use live_changes::carry_out;
-use live_changes::rooms::place_of;
 use live_deadline::Time;
 use live_deadline::time_left;
-use message::Seq;
 use refusals::Check;
 use refusals::check_poll;
 
@@ -93,45 +87,6 @@ fn end(e: Endpoint, store: &mut [u8], row: usize, cause: Cause, clock: u64) -> P
     }
 }
 
-// The frame of the request in a row goes out, and is in flight.
-fn send(
-    e: Endpoint,
-    store: &mut [u8],
-    output: &mut [u8],
-    row: usize,
-    frame: Frame,
-    next: Seq,
-    clock: u64,
-) -> Polled
-    requires { ⌜ Ready e clock (now store) × (row < e .live .count) × (total maxLen ≤ length (now output)) ⌝ }
-    ensures { λ r. ⌜ Does (polledAs (ledgerOf e (now (store .entry)))
-        (sentFrom (ledgerOf e (now (store .entry))) clock (frameOf frame) (next .0) row) (now (output .entry)) clock)
-        (pollOutcome r (now (store .exit)) (now (output .exit))) ⌝ }
-{
-    let rows = e.live;
-    let sent = put_frame(rows, store, output, row, frame);
-    let live = carry_out(rows, store, Change::Turn(row, State::InFlight(frame)));
-    Polled {
-        answer: PollAnswer::Sent(sent),
-        endpoint: after(e, live, next, clock),
-    }
-}
-
-// Puts the frame of the request in a row into the output: its fields, ID and data, with the frame's SEQ.
-fn put_frame(live: Requests, store: &[u8], output: &mut [u8], row: usize, frame: Frame) -> usize
-    requires { ⌜ (length (now store) ≡ storeLength) × Fits live × (row < live .count) × (total maxLen ≤ length (now output)) ⌝ }
-    ensures { λ r. ⌜ Put r (frameBytes (at row (liveOf live (now (store .entry)))) (frame .seq .0)) (now (output .entry))
-        (now (output .exit)) ⌝ }
-{
-    let q = live.rows[row];
-    let fields = q.fields;
-    let id = q.id;
-    let len = q.len;
-    let seq = frame.seq;
-    let at = place_of(row);
-    put_command(output, seq, fields, id, &store[at..at + len])
-}
-
 // Nothing is due.
 fn quiet(e: Endpoint, clock: u64) -> Polled
     requires { ⌜ Sound e clock ⌝ }
@@ -151,30 +106,5 @@ fn quiet(e: Endpoint, clock: u64) -> Polled
             answer: PollAnswer::NoDeadline,
             endpoint,
         },
-    }
-}
-
-// The endpoint after a poll.
-fn after(e: Endpoint, live: Requests, seq: Seq, clock: u64) -> Endpoint
-    ensures { λ r. ⌜ r ≡ record {
-      live = live;
-      reserved = e .reserved;
-      clock = clock;
-      seq = seq;
-      next = e .next;
-      seen = e .seen;
-      held = e .held;
-    } ⌝ }
-{
-    let next = e.next;
-    let seen = e.seen;
-    Endpoint {
-        live,
-        reserved: e.reserved,
-        clock,
-        seq,
-        next,
-        seen,
-        held: e.held,
     }
 }

@@ -4,7 +4,7 @@ use denote.Ref.{now}
 use Rattle.link.specs.Promises.{frameOf}
 use Rattle.decisions_poll.specs.declared.Step.the-variants.{End, Again, First, Quiet}
 use Rattle.refinement.proofs.Sound.{few-of}
-use Rattle.host_polling.proofs.Stepping.{stepped, reached, first-sent}
+use Rattle.host_sending.proofs.Stepping.{stepped, reached, first-sent}
 use Rattle.host_polling.proofs.accept.Statement.{statement}
 use Rattle.host_polling.proofs.accept.Tie as tie
 

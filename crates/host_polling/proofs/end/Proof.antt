@@ -5,7 +5,7 @@ use lib.ListN.{length, length-map}
 use borrow.Author.Needs.{needs}
 use denote.Ref.{now}
 use Rattle.refinement.proofs.Sound.{few-of, fits-of}
-use Rattle.host_polling.proofs.Stepping.{ended}
+use Rattle.host_sending.proofs.Stepping.{ended}
 use Rattle.host_polling.proofs.end.Statement.{statement}
 use Rattle.host_polling.proofs.end.Tie as tie
 

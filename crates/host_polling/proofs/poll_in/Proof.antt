@@ -6,7 +6,7 @@ use lib.ListN.{length}
 use Rattle.ledger.specs.Calls.{poll}
 use Rattle.host_answers.proofs.Calls.{meets, refuses, refused-by, accepted-by}
 use Rattle.host_answers.proofs.Calls.{sound-of}
-use Rattle.host_polling.proofs.Stepping.{long-enough}
+use Rattle.host_sending.proofs.Stepping.{long-enough}
 use Rattle.host_polling.proofs.poll_in.Statement.{statement}
 use Rattle.host_polling.proofs.poll_in.Tie as tie
 

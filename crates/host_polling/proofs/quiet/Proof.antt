@@ -2,7 +2,7 @@
 use borrow.Author.Needs.{needs}
 use Rattle.refinement.proofs.Sound.{few-of}
 use Rattle.refinement.proofs.Times.{none-late}
-use Rattle.host_polling.proofs.Stepping.{quiet-in, quiet-never}
+use Rattle.host_sending.proofs.Stepping.{quiet-in, quiet-never}
 use Rattle.host_polling.proofs.quiet.Statement.{statement}
 use Rattle.host_polling.proofs.quiet.Tie as tie
 

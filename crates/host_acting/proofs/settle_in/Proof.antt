@@ -1,4 +1,4 @@
--- `host_receiving::settle_in` meets its contract: the front of the store is lent.
+-- `host_acting::settle_in` meets its contract: the front of the store is lent.
 use mathlib.Core.Path.{_≡_, sym, _∙_}
 use native.Mathlib.Omega.{arith}
 use lib.ListN.{length}
@@ -6,8 +6,8 @@ use borrow.Author.Needs.{needs}
 use denote.Ref.{now}
 use Rattle.line.specs.Receiving.{heldMax}
 use Rattle.host_answers.proofs.Held.{length-front, first-lent, rest-lent}
-use Rattle.host_receiving.proofs.settle_in.Statement.{statement}
-use Rattle.host_receiving.proofs.settle_in.Tie as tie
+use Rattle.host_acting.proofs.settle_in.Statement.{statement}
+use Rattle.host_acting.proofs.settle_in.Tie as tie
 
 slice-relend-prefix-settle : tie.Need-slice-relend-prefix-settle
 slice-relend-prefix-settle c = search needs

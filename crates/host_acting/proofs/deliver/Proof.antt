@@ -1,11 +1,11 @@
--- `host_receiving::deliver` meets its contract: the payload is judged, and its data are handed over.
+-- `host_acting::deliver` meets its contract: the payload is judged, and its data are handed over.
 use native.Mathlib.Omega.{arith}
 use lib.ListN.{length-drop}
 use borrow.Author.Needs.{needs}
 use denote.Ref.{now}
 use Rattle.command.specs.Payload.{headLength}
-use Rattle.host_receiving.proofs.deliver.Statement.{statement}
-use Rattle.host_receiving.proofs.deliver.Tie as tie
+use Rattle.host_acting.proofs.deliver.Statement.{statement}
+use Rattle.host_acting.proofs.deliver.Tie as tie
 
 payload-requires : tie.Need-payload-requires
 payload-requires c κs = search needs

@@ -1,10 +1,10 @@
--- `host_polling::send` meets its contract: the frame stands in the output, and its request is in flight.
+-- `host_sending::send` meets its contract: the frame stands in the output, and its request is in flight.
 use borrow.Author.Needs.{needs}
 use denote.Ref.{now}
 use Rattle.refinement.proofs.Sound.{fits-of}
-use Rattle.host_polling.proofs.Stepping.{sent}
-use Rattle.host_polling.proofs.send.Statement.{statement}
-use Rattle.host_polling.proofs.send.Tie as tie
+use Rattle.host_sending.proofs.Stepping.{sent}
+use Rattle.host_sending.proofs.send.Statement.{statement}
+use Rattle.host_sending.proofs.send.Tie as tie
 
 put-frame-requires : tie.Need-put-frame-requires
 put-frame-requires c κs = let s = c .before .before .before .before .before in (s .pre .0 .1, fits-of (s .args .e) (s .pre .0 .0 .sound), s .pre .1, s .pre .2)

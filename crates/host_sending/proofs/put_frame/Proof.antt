@@ -1,4 +1,4 @@
--- `host_polling::put_frame` meets its contract: the request's fields, ID and data, with the frame's SEQ.
+-- `host_sending::put_frame` meets its contract: the request's fields, ID and data, with the frame's SEQ.
 use Prim.Native.Nat.{ℕ, _+_, _-_, _≤_, _<_}
 use mathlib.Core.List.{List}
 use mathlib.Core.Path.{_≡_, sym, _∙_}
@@ -17,8 +17,8 @@ use Rattle.endpoint.specs.declared.Requests.{Requests}
 use Rattle.endpoint.proofs.Rows.{blankRow}
 use Rattle.live_changes.proofs.Becoming.{live-at, len-at}
 use Rattle.frames.specs.Promises.{Put}
-use Rattle.host_polling.proofs.put_frame.Statement.{statement}
-use Rattle.host_polling.proofs.put_frame.Tie as tie
+use Rattle.host_sending.proofs.put_frame.Statement.{statement}
+use Rattle.host_sending.proofs.put_frame.Tie as tie
 
 three : (c : tie.Start) → length (c .args .t1 .rows) ≡ 3
 three c = sym (length-map (c .args .t1 .rows) _) ∙ c .good .0 .1 .1 .0 .1 .0 .1

@@ -1,11 +1,11 @@
--- `host_receiving::decide_in` meets its contract: the front of the store is lent.
+-- `host_acting::decide_in` meets its contract: the front of the store is lent.
 use mathlib.Core.Path.{sym}
 use native.Mathlib.Omega.{arith}
 use borrow.Author.Needs.{needs}
 use denote.Ref.{now}
 use Rattle.host_answers.proofs.Held.{length-front, decided-in}
-use Rattle.host_receiving.proofs.decide_in.Statement.{statement}
-use Rattle.host_receiving.proofs.decide_in.Tie as tie
+use Rattle.host_acting.proofs.decide_in.Statement.{statement}
+use Rattle.host_acting.proofs.decide_in.Tie as tie
 
 slice-relend-prefix-decide : tie.Need-slice-relend-prefix-decide
 slice-relend-prefix-decide c = search needs

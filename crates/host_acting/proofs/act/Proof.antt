@@ -1,11 +1,11 @@
--- `host_receiving::act` meets its contract: the bytes are settled, and the change is carried out.
+-- `host_acting::act` meets its contract: the bytes are settled, and the change is carried out.
 use native.Mathlib.Omega.{arith}
 use borrow.Author.Needs.{needs}
 use denote.Ref.{now}
 use Rattle.refinement.proofs.Sound.{few-of, fits-of}
-use Rattle.host_receiving.proofs.Acting.{Settled, acted}
-use Rattle.host_receiving.proofs.act.Statement.{statement}
-use Rattle.host_receiving.proofs.act.Tie as tie
+use Rattle.host_acting.proofs.Acting.{Settled, acted}
+use Rattle.host_acting.proofs.act.Statement.{statement}
+use Rattle.host_acting.proofs.act.Tie as tie
 
 settle-in-requires : tie.Need-settle-in-requires
 settle-in-requires c κs = search needs
