@@ -157,15 +157,9 @@ fn gather(progress: Progress, line: &mut [u8], more: &[u8]) -> Progress
         return with_next(progress, Next::Fault(Fault::LongLine));
     }
     bytes::copy(more, &mut line[gathered..]);
-    let session = progress.session;
-    let next = progress.next;
-    Progress {
-        session,
-        number: progress.number,
-        gathered: gathered + more.len(),
-        used: progress.used,
-        next,
-    }
+    let mut after = progress;
+    after.gathered = gathered + more.len();
+    after
 }
 
 // Runs the line that is gathered, unless it is too long.
@@ -236,15 +230,8 @@ fn written(progress: Progress, out: &[u8]) -> Progress
     ensures { λ r. ⌜ (r .gathered ≡ progress .gathered) × (r .used ≡ 0) ⌝ }
 {
     let sheet = write_out(out, progress.used);
-    let session = progress.session;
-    let next = progress.next;
-    let after = Progress {
-        session,
-        number: progress.number,
-        gathered: progress.gathered,
-        used: sheet.used,
-        next,
-    };
+    let mut after = progress;
+    after.used = sheet.used;
     if !sheet.fine {
         return with_next(after, Next::WriteFailed);
     }

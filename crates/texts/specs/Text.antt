@@ -41,7 +41,10 @@ unfoldable pub shownAs : List ℕ → List ℕ
 shownAs [] = ascii "-"
 shownAs (b ∷ s) = pairs (b ∷ s)
 
--- room for these
+-- room for these, and for a number behind a space
+abbrev pub spacedRoom : ℕ
+spacedRoom = 1 + digitsMax
+
 abbrev pub pairsRoom : List ℕ → ℕ
 pairsRoom s = 2 * length s
 

@@ -5,7 +5,7 @@ ghost use mathlib.Core.List.{_∷_, [], _++_};
 ghost use Prim.Native.Nat.{_+_, _/_, _%_, _≤_, _<_};
 ghost use lib.ListN.{length, take};
 ghost use Rattle.io.specs.Digits.{glyph};
-ghost use Rattle.texts.specs.Text.{decimal, digitsMax, named, pairs, shownAs, pairsRoom, Puts};
+ghost use Rattle.texts.specs.Text.{ascii, decimal, digitsMax, named, spacedRoom, pairs, shownAs, pairsRoom, Puts};
 
 // A text as it stands.
 // Ruled out: a text that lacks its last byte, and bytes before it that change.
@@ -37,6 +37,15 @@ pub fn put_named(out: &mut [u8], at: usize, word: &[u8], n: u64) -> usize
 {
     let end = put(out, at, word);
     put_number(out, end, n)
+}
+
+// A number behind a space.
+// Ruled out: no space, and a space behind the number.
+pub fn put_spaced(out: &mut [u8], at: usize, n: u64) -> usize
+    requires { ⌜ at + spacedRoom ≤ length (now out) ⌝ }
+    ensures { λ r. ⌜ Puts spacedRoom at (named (ascii " ") n) (now (out .entry)) (now (out .exit)) r ⌝ }
+{
+    put_named(out, at, b" ", n)
 }
 
 // Bytes as pairs of hexadecimal digits, `-` for none.

@@ -13,6 +13,7 @@ use message::Seq;
 use texts::put;
 use texts::put_bytes;
 use texts::put_named;
+use texts::put_spaced;
 use transcript_parts::put_ending;
 use transcript_parts::put_fields;
 
@@ -44,8 +45,8 @@ fn put_message(out: &mut [u8], at: usize, kind: u8, seq: Seq, len: usize) -> usi
     ensures { λ r. ⌜ Puts itemRoom at (oneText (Item.Message kind seq len)) (now (out .entry)) (now (out .exit)) r ⌝ }
 {
     let end = put_named(out, at, b"message ", kind as u64);
-    let end = put_named(out, end, b" ", seq.0 as u64);
-    put_named(out, end, b" ", len as u64)
+    let end = put_spaced(out, end, seq.0 as u64);
+    put_spaced(out, end, len as u64)
 }
 
 // The word that a message earned.
@@ -74,8 +75,8 @@ fn put_command(out: &mut [u8], at: usize, word: &[u8], it: Command) -> usize
     let id = it.id;
     let end = put(out, at, word);
     let end = put_fields(out, end, fields);
-    let end = put_named(out, end, b" ", id.0 as u64);
-    put_named(out, end, b" ", it.len as u64)
+    let end = put_spaced(out, end, id.0 as u64);
+    put_spaced(out, end, it.len as u64)
 }
 
 // A length and bytes behind a name.

@@ -10,6 +10,7 @@ use ledger::Cause;
 use ledger::Ending;
 use texts::put;
 use texts::put_named;
+use texts::put_spaced;
 
 // The fields of a command, each behind a space: TC, TID, SID, IID and CID. Public for `transcript`.
 // Ruled out: TID and SID exchanged, and a field left out.
@@ -18,17 +19,17 @@ pub fn put_fields(out: &mut [u8], at: usize, fields: Fields) -> usize
     ensures { λ r. ⌜ Puts fieldsRoom at (fieldsText fields) (now (out .entry)) (now (out .exit)) r ⌝ }
 {
     let end = put_address(out, at, fields);
-    let end = put_named(out, end, b" ", fields.iid as u64);
-    put_named(out, end, b" ", fields.cid as u64)
+    let end = put_spaced(out, end, fields.iid as u64);
+    put_spaced(out, end, fields.cid as u64)
 }
 
 fn put_address(out: &mut [u8], at: usize, fields: Fields) -> usize
     requires { ⌜ at + addressRoom ≤ length (now out) ⌝ }
     ensures { λ r. ⌜ Puts addressRoom at (addressText fields) (now (out .entry)) (now (out .exit)) r ⌝ }
 {
-    let end = put_named(out, at, b" ", fields.tc as u64);
-    let end = put_named(out, end, b" ", fields.tid as u64);
-    put_named(out, end, b" ", fields.sid as u64)
+    let end = put_spaced(out, at, fields.tc as u64);
+    let end = put_spaced(out, end, fields.tid as u64);
+    put_spaced(out, end, fields.sid as u64)
 }
 
 // An ending: its request ID and its cause. Public for `transcript`.

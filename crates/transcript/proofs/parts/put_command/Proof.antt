@@ -12,20 +12,14 @@ put-requires c κs = search needs
 put-fields-requires : tie.Need-put-fields-requires
 put-fields-requires c κs = search needs
 
-slice-aggregate-put-named : tie.Need-slice-aggregate-put-named
-slice-aggregate-put-named c = search needs
+cast-put-spaced : tie.Need-cast-put-spaced
+cast-put-spaced c = search needs
 
-cast-put-named : tie.Need-cast-put-named
-cast-put-named c = search needs
+put-spaced-requires : tie.Need-put-spaced-requires
+put-spaced-requires c κs = search needs
 
-put-named-requires : tie.Need-put-named-requires
-put-named-requires c κs = search needs
-
-slice-aggregate-put-named-2 : tie.Need-slice-aggregate-put-named-2
-slice-aggregate-put-named-2 c = search needs
-
-put-named-requires-2 : tie.Need-put-named-requires-2
-put-named-requires-2 c κs = search needs
+put-spaced-requires-2 : tie.Need-put-spaced-requires-2
+put-spaced-requires-2 c κs = search needs
 
 same-length : tie.Need-same-length
 same-length c = search needs
@@ -33,11 +27,11 @@ same-length c = search needs
 returns : tie.Need-returns
 unfolding commandText
 returns c =
-    let put = c .before .before .before .before .before .before .before .before .before .before .before .before .before .before .before .before .before .put in
-    let put-fields = c .before .before .before .before .before .before .before .before .before .before .before .before .before .put-fields in
-    let put-named = c .before .before .before .before .before .before .before .put-named in
-    let put-named2 = c .before .before .put-named2 in
-    wider (omega arith) (behind (put .ensures) (behind (put-fields .ensures) (behind (put-named .ensures) (put-named2 .ensures))))
+    let put = c .before .before .before .before .before .before .before .before .before .before .before .before .before .before .before .put in
+    let put-fields = c .before .before .before .before .before .before .before .before .before .before .before .put-fields in
+    let put-spaced = c .before .before .before .before .before .before .put-spaced in
+    let put-spaced2 = c .before .before .put-spaced2 in
+    wider (omega arith) (behind (put .ensures) (behind (put-fields .ensures) (behind (put-spaced .ensures) (put-spaced2 .ensures))))
 
 pub put-command-spec : {M : Type 1} → statement M
 put-command-spec =
@@ -45,10 +39,8 @@ put-command-spec =
     (tie.spec
     put-requires
     put-fields-requires
-    slice-aggregate-put-named
-    cast-put-named
-    put-named-requires
-    slice-aggregate-put-named-2
-    put-named-requires-2
+    cast-put-spaced
+    put-spaced-requires
+    put-spaced-requires-2
     same-length
     returns)

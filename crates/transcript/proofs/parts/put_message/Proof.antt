@@ -11,20 +11,14 @@ slice-aggregate-put-named c = search needs
 put-named-requires : tie.Need-put-named-requires
 put-named-requires c κs = search needs
 
-slice-aggregate-put-named-2 : tie.Need-slice-aggregate-put-named-2
-slice-aggregate-put-named-2 c = search needs
+cast-put-spaced : tie.Need-cast-put-spaced
+cast-put-spaced c = search needs
 
-cast-put-named : tie.Need-cast-put-named
-cast-put-named c = search needs
+put-spaced-requires : tie.Need-put-spaced-requires
+put-spaced-requires c κs = search needs
 
-put-named-requires-2 : tie.Need-put-named-requires-2
-put-named-requires-2 c κs = search needs
-
-slice-aggregate-put-named-3 : tie.Need-slice-aggregate-put-named-3
-slice-aggregate-put-named-3 c = search needs
-
-put-named-requires-3 : tie.Need-put-named-requires-3
-put-named-requires-3 c κs = search needs
+put-spaced-requires-2 : tie.Need-put-spaced-requires-2
+put-spaced-requires-2 c κs = search needs
 
 same-length : tie.Need-same-length
 same-length c = search needs
@@ -32,10 +26,10 @@ same-length c = search needs
 returns : tie.Need-returns
 unfolding oneText
 returns c =
-    let put-named = c .before .before .before .before .before .before .before .before .before .before .before .before .before .put-named in
-    let put-named2 = c .before .before .before .before .before .before .before .put-named2 in
-    let put-named3 = c .before .before .put-named3 in
-    behind (put-named .ensures) (behind (put-named2 .ensures) (put-named3 .ensures))
+    let put-named = c .before .before .before .before .before .before .before .before .before .before .before .put-named in
+    let put-spaced = c .before .before .before .before .before .before .put-spaced in
+    let put-spaced2 = c .before .before .put-spaced2 in
+    behind (put-named .ensures) (behind (put-spaced .ensures) (put-spaced2 .ensures))
 
 pub put-message-spec : {M : Type 1} → statement M
 put-message-spec =
@@ -43,10 +37,8 @@ put-message-spec =
     (tie.spec
     slice-aggregate-put-named
     put-named-requires
-    slice-aggregate-put-named-2
-    cast-put-named
-    put-named-requires-2
-    slice-aggregate-put-named-3
-    put-named-requires-3
+    cast-put-spaced
+    put-spaced-requires
+    put-spaced-requires-2
     same-length
     returns)
