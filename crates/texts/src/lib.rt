@@ -7,7 +7,7 @@ ghost use lib.ListN.{length, take};
 ghost use Rattle.io.specs.Digits.{glyph};
 ghost use Rattle.texts.specs.Text.{ascii, decimal, digitsMax, named, spacedRoom, pairs, shownAs, pairsRoom, Puts};
 
-// A text as it stands.
+// A text as it stands. Public for `transcript_parts` and `transcript`, as all that is public here.
 // Ruled out: a text that lacks its last byte, and bytes before it that change.
 pub fn put(out: &mut [u8], at: usize, text: &[u8]) -> usize
     requires { ⌜ at + length (now text) ≤ length (now out) ⌝ }
@@ -18,8 +18,7 @@ pub fn put(out: &mut [u8], at: usize, text: &[u8]) -> usize
 }
 
 // A number in decimal.
-// Ruled out: leading zeros, and the digits from the lowest up.
-pub fn put_number(out: &mut [u8], at: usize, n: u64) -> usize
+fn put_number(out: &mut [u8], at: usize, n: u64) -> usize
     requires { ⌜ at + digitsMax ≤ length (now out) ⌝ }
     ensures { λ r. ⌜ Puts digitsMax at (decimal n) (now (out .entry)) (now (out .exit)) r ⌝ }
 {
