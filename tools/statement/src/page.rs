@@ -96,7 +96,7 @@ fn demands(page: &mut String, gate: &Gate) -> Result<(), String> {
     page.push_str("\nTHE THREE DEMANDS, each proved for all inputs\n");
     for (i, demand) in DEMANDS.iter().enumerate() {
         demand.is_proved(gate)?;
-        let _ = writeln!(page, "\n{}. {}", i + 1, demand.sentence);
+        let _ = writeln!(page, "\n{}. {}", i + 1, wrapped(demand.sentence));
         for (file, names) in demand.theorems {
             let _ = writeln!(page, "   theorems {} in crates/{file}", names.join(", "));
         }
@@ -104,15 +104,32 @@ fn demands(page: &mut String, gate: &Gate) -> Result<(), String> {
     Ok(())
 }
 
+/// A sentence on lines of at most 110 characters, those behind the first indented.
+fn wrapped(sentence: &str) -> String {
+    let mut lines = vec![String::new()];
+    for word in sentence.split(' ') {
+        let last = lines.last_mut().expect("there is a line");
+        if last.is_empty() {
+            last.push_str(word);
+        } else if last.len() + 1 + word.len() <= 110 {
+            *last = format!("{last} {word}");
+        } else {
+            lines.push(word.to_string());
+        }
+    }
+    lines.join("\n   ")
+}
+
 fn crates(page: &mut String, gate: &Gate, compared: &Comparisons, listed: &str) {
     let functions: usize = gate.crates.iter().map(|c| c.functions).sum();
     let _ = writeln!(page, "\nCRATES: {} proved, {functions} functions; assumed contracts of C functions; seconds of the check\n", gate.crates.len());
     for c in &gate.crates {
         let kind = if gate.programs.contains(&c.name) { "program" } else { "library" };
-        let _ = writeln!(page, "{:<20} {kind} {:>3} functions  {:<44} {:>3} s", c.name, c.functions, assumed(c, listed), c.seconds);
+        let functions = format!("{} function{}", c.functions, if c.functions == 1 { "" } else { "s" });
+        let _ = writeln!(page, "{:<20} {kind} {functions:>13}  {:<44} {:>3} s", c.name, assumed(c, listed), c.seconds);
     }
     for (name, n) in &compared.archives {
-        let _ = writeln!(page, "{name:<20} archive for C       {n} assumed");
+        let _ = writeln!(page, "{name:<20} archive for C           {n} assumed");
     }
 }
 
@@ -191,6 +208,15 @@ mod tests {
     #[test]
     fn a_missing_line_is_told() {
         assert!(differs(&["a".into()], &[]).unwrap_err().contains("(no line)"));
+    }
+
+    #[test]
+    fn long_sentences_are_wrapped() {
+        assert_eq!(wrapped("short"), "short");
+        let long = "word ".repeat(30).trim_end().to_string();
+        let lines: Vec<String> = wrapped(&long).lines().map(|l| l.trim().to_string()).collect();
+        assert_eq!(lines.len(), 2);
+        assert_eq!(lines.join(" "), long);
     }
 
     #[test]
