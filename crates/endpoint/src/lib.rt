@@ -1,6 +1,4 @@
 // The host endpoint as its callers hold it (document 01, "The ledger"): numbers by value, bytes in a store that the caller lends.
-pub mod rule; // which endpoints are malformed
-
 use command::Fields;
 use command::MAX_DATA;
 use command::RequestId;

@@ -8,7 +8,7 @@ ghost use Rattle.endpoint.specs.Malformed.{bareOf};
 use command::RequestId;
 use endpoint::LAST_ID;
 use endpoint::Requests;
-use endpoint::rule::is_among;
+use malformed_rule::is_among;
 
 // The first ID not live, from one on: no more are passed over than are live. Asks for rows within their array and an R that is no
 // more than 255, which the callers have seen to.

@@ -13,7 +13,7 @@ use command::MAX_DATA;
 use command::writer::is_too_long;
 use endpoint::Endpoint;
 use endpoint::LIVE_MAX;
-use endpoint::rule::is_malformed;
+use malformed_rule::is_malformed;
 use message::header::MAX_LEN;
 use message::header::OVERHEAD;
 
