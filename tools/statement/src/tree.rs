@@ -21,17 +21,18 @@ pub fn has_word(text: &str, name: &str) -> bool {
     })
 }
 
-/// Whether a file of definitions or proofs declares a name: as a definition or theorem, a type, a constructor or a field.
+/// Whether a file of definitions or proofs declares a name: with its type, as a definition, theorem, constructor or field, `name : ..`, or as
+/// a type of its own, `data Name ..`, `record Name ..`. A line that only uses it does not count.
 pub fn declares(text: &str, name: &str) -> bool {
     text.lines().any(|line| {
-        let line = line.trim_start();
-        let mut rest = line;
-        for word in ["abbrev ", "unfoldable ", "pub ", "data ", "record ", "| "] {
+        let mut rest = line.trim_start();
+        for word in ["abbrev ", "unfoldable ", "pub "] {
             rest = rest.strip_prefix(word).unwrap_or(rest);
         }
-        match rest.strip_prefix(name) {
-            Some(after) => !line.starts_with("--") && (after.is_empty() || after.starts_with([' ', ':'])),
-            None => false,
+        let own_type = rest.strip_prefix("data ").or(rest.strip_prefix("record "));
+        match own_type {
+            Some(rest) => rest.strip_prefix(name).is_some_and(|after| after.starts_with(' ')),
+            None => rest.strip_prefix(name).is_some_and(|after| after.starts_with(" :")),
         }
     })
 }
@@ -61,7 +62,10 @@ mod tests {
         assert!(declares("pub record Meets (d : Done) : Type 0 where\n  pub answers : x\n", "answers"));
         assert!(declares("  pub at-most-once : (place : ℕ) → x", "at-most-once"));
         assert!(!declares("-- le16 : the two bytes", "le16"));
+        assert!(declares("pub data Cause : Type 0 where\n  acknowledged : Cause\n", "Cause"));
+        assert!(declares("pub data Cause : Type 0 where\n  acknowledged : Cause\n", "acknowledged"));
         assert!(!declares("x = le16 n", "le16"));
+        assert!(!declares("le16 n = n % 256 ∷ n / 256 ∷ []", "le16"));
         assert!(!declares("pub le16s : ℕ", "le16"));
     }
 }
