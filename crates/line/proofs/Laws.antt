@@ -1,18 +1,21 @@
 -- The line's laws, over the definitions and so over the promises of `decide` and `receive`: what a call takes, demand 2's cuts, the
 -- limit of what is held, and where every byte goes. Each is shown in the file that its proof cites.
 use Prim.Native.Nat.{ℕ, _≤_, _<_}
-use mathlib.Core.Bool.{false}
+use mathlib.Core.Bool.{true, false}
 use mathlib.Core.List.{List, [], _∷_, _++_}
 use mathlib.Core.Path.{_≡_}
 use lib.ListN.{length, take, drop}
-use Rattle.message.specs.Bytes.{maxLen}
+use Rattle.message.specs.Bytes as bytes
+use Rattle.message.specs.Bytes.{maxLen, allowed}
 use Rattle.message.specs.Items.{message, scan}
-use Rattle.line.specs.Cuts.{found, before, handed, handedEach, joined, goneIn, went}
+use Rattle.line.specs.Cuts.{Found, found, before, onAnswer, handed, handedEach, joined, goneIn, went}
 use Rattle.line.specs.Receiving.{heldMax, decides, more, item, answered, receive}
 use Rattle.line.proofs.Bounds as bounds
+use Rattle.line.proofs.CallByCall as calls
 use Rattle.line.proofs.Got.{Removes}
 use Rattle.line.proofs.Got as got
 use Rattle.line.proofs.Handed as hand
+use Rattle.line.proofs.Pieces as pieces
 
 -- "the smallest number of new bytes .. that decides one": fewer decide nothing
 pub fewer-decide-nothing : (held new : List ℕ) (k : ℕ) → k < receive held new .taken → decides (scan (held ++ take k new)) ≡ false
@@ -53,6 +56,38 @@ cuts = hand.cuts
 pub cuts-from : (held piece : List ℕ) (pieces : List (List ℕ)) → handedEach held (piece ∷ pieces)
     ≡ handed held (joined (piece ∷ pieces))
 cuts-from = hand.each-joined
+
+-- call by call: the bytes that a call takes decide as all of its bytes do
+pub taken-suffices : (held new : List ℕ) → receive held (take (receive held new .taken) new) ≡ receive held new
+taken-suffices = calls.taken-suffices
+
+-- after *more*, what is held decides nothing and stays
+pub more-rests : (held new : List ℕ) → receive held new .answer ≡ more
+    → handed (receive held new .held) [] ≡ record { items = []; held = receive held new .held }
+more-rests = calls.more-rests
+
+-- the bytes that a call takes, handed in until *more*: its item, if any, and what comes of the bytes held after it
+pub taken-handed : (held new : List ℕ)
+    → handed held (take (receive held new .taken) new)
+    ≡ onAnswer (receive held new .answer) (receive held new .held) (receive held new .payload) (handed (receive held new .held) [])
+taken-handed = calls.taken-handed
+
+-- bytes behind others: where those gave some items and leave some bytes held, the next ones go on from there
+pub handed-on : (start ahead behind held : List ℕ) (items : List Found) → handed start ahead ≡ before items (handed held [])
+    → handed start (ahead ++ behind) ≡ before items (handed held behind)
+handed-on = calls.handed-on
+
+-- a message that arrives in two pieces: the first is held, and answered *more*; with the second the message is there
+pub first-piece : (type seq : ℕ) (payload first second : List ℕ) → allowed type (length payload) ≡ true
+    → first ++ second ≡ bytes.message type seq payload → 0 < length second
+    → receive [] first ≡ record { answer = more; payload = []; taken = length first; held = first }
+first-piece type seq payload first second fine cut some = pieces.first-piece type seq payload first second fine cut some
+
+pub last-piece : (type seq : ℕ) (payload first second : List ℕ) → allowed type (length payload) ≡ true
+    → first ++ second ≡ bytes.message type seq payload
+    → receive first second
+    ≡ record { answer = item (message type seq (length payload)); payload = payload; taken = length second; held = [] }
+last-piece type seq payload first second fine cut = pieces.last-piece type seq payload first second fine cut
 
 -- "At most 265 bytes are held.": after every call, and in the end
 pub receive-bounded : (held new : List ℕ) → length held ≤ heldMax → length (receive held new .held) ≤ heldMax

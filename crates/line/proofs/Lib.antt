@@ -11,6 +11,8 @@ pub mod Dropped
 pub mod Got
 pub mod Later
 pub mod Handed
+pub mod CallByCall
 pub mod Bounds
+pub mod Pieces
 pub mod Laws
 pub mod Examples

@@ -1,13 +1,14 @@
 // Which item held bytes and new ones decide, and what is held then (document 01, "How bytes become items"). A byte is moved only
 // where it is held: into the array, or to its front.
 ghost use mathlib.Core.Path.{_≡_};
+ghost use mathlib.Core.Bool.{false};
 ghost use mathlib.Core.List.{[]};
 ghost use Prim.Native.Nat.{_+_, _≤_};
 ghost use lib.ListN.{length, take};
 ghost use Rattle.message.specs.Bytes.{headerLength};
 ghost use Rattle.message.specs.Items.{undecided, decided, scan};
-ghost use Rattle.message.specs.Promises.{itemOf};
-ghost use Rattle.line.specs.Receiving.{heldMax, taken};
+ghost use Rattle.message.specs.Promises.{itemOf, scanOf};
+ghost use Rattle.line.specs.Receiving.{heldMax, decides, taken};
 ghost use Rattle.line.specs.Code.{breaks};
 ghost use Rattle.line.specs.Promises.{Decides};
 ghost use Rattle.line.specs.declared.Answer.the-variants.{One};
@@ -34,14 +35,29 @@ pub fn decide(array: &mut [u8], count: usize, new: &[u8]) -> Decision
     ensures { λ r. ⌜ Decides r (take count (now (array .entry))) (now (new .entry)) (now (array .exit)) ⌝ }
 {
     let reading = read(&array[..count]);
-    match reading {
-        Reading::Decided {
-            item,
-            dropped,
-            removed,
-        } => in_array(item, dropped, removed, count),
-        Reading::Undecided { dropped } => without_dropped(array, dropped, count, new),
+    let Reading::Decided {
+        item,
+        dropped,
+        removed,
+    } = reading
+    else {
+        return without_dropped(array, dropped_of(reading), count, new);
+    };
+    in_array(item, dropped, removed, count)
+}
+
+// How many bytes go where nothing is decided.
+fn dropped_of(reading: Reading) -> usize
+    requires { ⌜ decides (scanOf reading) ≡ false ⌝ }
+    ensures { λ r. ⌜ scanOf reading ≡ undecided r ⌝ }
+{
+    let (Reading::Decided {
+        item: _,
+        dropped,
+        removed: _,
     }
+    | Reading::Undecided { dropped }) = reading;
+    dropped
 }
 
 // An item of the array's first count bytes alone: none is moved, and no new one taken.
@@ -96,18 +112,17 @@ fn in_new(array: &mut [u8], new: &[u8]) -> Decision
     ensures { λ r. ⌜ Decides r [] (now (new .entry)) (now (array .exit)) ⌝ }
 {
     let reading = read(new);
-    match reading {
-        Reading::Decided {
-            item,
-            dropped,
-            removed,
-        } => item_in_new(array, item, dropped, removed, new),
-        Reading::Undecided { dropped } => {
-            let rest = &new[dropped..];
-            put_at(array, 0, rest);
-            all_held(rest.len(), new.len())
-        }
-    }
+    let Reading::Decided {
+        item,
+        dropped,
+        removed,
+    } = reading
+    else {
+        let rest = &new[dropped_of(reading)..];
+        put_at(array, 0, rest);
+        return all_held(rest.len(), new.len());
+    };
+    item_in_new(array, item, dropped, removed, new)
 }
 
 // An item of the new bytes: what follows it, of the bytes that decide it, is held.

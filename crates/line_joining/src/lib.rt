@@ -62,17 +62,16 @@ fn after_start(array: &mut [u8], from: usize, kept: usize, new: &[u8]) -> Decisi
     }
     let header = join_header(&array[from..from + kept], &new[..missing]);
     let reading = read(&header);
-    match reading {
-        Reading::Decided {
-            item,
-            dropped: _,
-            removed: _,
-        } => header_item(array, from, kept, item, &new[..missing]),
-        Reading::Undecided { dropped: _ } => {
-            let len = len_in(&header);
-            after_header(array, from, kept, len, new)
-        }
-    }
+    let Reading::Decided {
+        item,
+        dropped: _,
+        removed: _,
+    } = reading
+    else {
+        let len = len_in(&header);
+        return after_header(array, from, kept, len, new);
+    };
+    header_item(array, from, kept, item, &new[..missing])
 }
 
 // The bytes of a header in two parts.

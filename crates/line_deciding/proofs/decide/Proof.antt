@@ -1,5 +1,5 @@
 -- `line_deciding::decide` meets its contract: an item of the held bytes alone, or what new bytes make of them.
-use mathlib.Core.Path.{_≡_, sym, ap}
+use mathlib.Core.Path.{_≡_, sym, ap, _∙_}
 use native.Mathlib.Omega.{arith}
 use lib.ListN.{length, take}
 use lib.Seq.{length-take-le}
@@ -24,6 +24,24 @@ read-requires c κs = search needs
 enum-known-reading : tie.Need-enum-known-reading
 enum-known-reading c = search needs
 
+enum-told : tie.Need-enum-told
+enum-told c = search needs
+
+dropped-of-requires : tie.Need-dropped-of-requires
+dropped-of-requires c κs = search needs
+
+without-dropped-requires : tie.Need-without-dropped-requires
+without-dropped-requires c κs =
+    let read = c .before .before .before .before in
+    let start = read .before .before .before .before in
+    (start .pre .0, start .pre .1, sym (read .read .ensures) ∙ c .dropped-of .ensures)
+
+same-length : tie.Need-same-length
+same-length c = search needs
+
+returns : tie.Need-returns
+returns c = search needs
+
 in-array-requires : tie.Need-in-array-requires
 in-array-requires c κs =
     let a = c .before .before .before .before .before .before .before .args in
@@ -31,21 +49,11 @@ in-array-requires c κs =
     let h = sym (rw (c .before .reading .given .1) at (c .before .before .before .read .ensures)) in
     (omega (arith, scan-within held h, length-take-le (a .count) (now (a .array)) (omega arith)), omega arith)
 
-enum-known-reading-2 : tie.Need-enum-known-reading-2
-enum-known-reading-2 c = search needs
+same-length-2 : tie.Need-same-length-2
+same-length-2 c = search needs
 
-without-dropped-requires : tie.Need-without-dropped-requires
-without-dropped-requires c κs =
-    let told = c .before .before in
-    let read = told .before .before in
-    let start = read .before .before .before .before in
-    (start .pre .0, start .pre .1, sym (rw (told .reading2 .given .1) at (read .read .ensures)))
-
-same-length : tie.Need-same-length
-same-length c = search needs
-
-returns : tie.Need-returns
-returns c =
+returns-2 : tie.Need-returns-2
+returns-2 c =
     let a = c .before .before .before .before .before .before .before .before .args in
     let held = take (a .count) (now (a .array)) in
     let size : length held ≡ a .count = length-take-le (a .count) (now (a .array)) (omega arith) in
@@ -55,12 +63,6 @@ returns c =
     (told .0 .1 .1 .0)
     (at-held held (now (a .new)) (ap decides h)) h (omega (arith, size)) (rw size (c .in-array .ensures))
 
-same-length-2 : tie.Need-same-length-2
-same-length-2 c = search needs
-
-returns-2 : tie.Need-returns-2
-returns-2 c = search needs
-
 pub decide-spec : {M : Type 1} → statement M
 decide-spec =
     tie.close
@@ -69,10 +71,11 @@ decide-spec =
     slice-aggregate-read
     read-requires
     enum-known-reading
-    in-array-requires
-    enum-known-reading-2
+    enum-told
+    dropped-of-requires
     without-dropped-requires
     same-length
     returns
+    in-array-requires
     same-length-2
     returns-2)

@@ -17,27 +17,22 @@ read-requires c κs = search needs
 enum-known-reading : tie.Need-enum-known-reading
 enum-known-reading c = search needs
 
-item-in-new-requires : tie.Need-item-in-new-requires
-item-in-new-requires c κs =
-    let told = c .before .before .reading .given .1 in (
-      c .before .before .before .before .before .before .before .pre,
-      sym
-          (rw told at (c .before .before .before .before .read .ensures)),
-    )
+enum-told : tie.Need-enum-told
+enum-told c = search needs
 
-enum-known-reading-2 : tie.Need-enum-known-reading-2
-enum-known-reading-2 c = search needs
+dropped-of-requires : tie.Need-dropped-of-requires
+dropped-of-requires c κs = search needs
 
 sub-rest : tie.Need-sub-rest
 sub-rest c =
-    let h = sym (rw (c .before .reading2 .given .1) at (c .before .before .before .read .ensures)) in
     let new = now (c .before .before .before .before .before .before .args .new) in
+    let h = sym (c .before .before .before .read .ensures) ∙ c .dropped-of .ensures in
     omega (arith, undecided-left new h, dropped-within new)
 
 part-rest-start : tie.Need-part-rest-start
 part-rest-start c =
-    let h = sym (rw (c .before .reading2 .given .1) at (c .before .before .before .read .ensures)) in
     let new = now (c .before .before .before .before .before .before .args .new) in
+    let h = sym (c .before .before .before .read .ensures) ∙ c .dropped-of .ensures in
     omega (arith, undecided-left new h, dropped-within new)
 
 part-rest-end : tie.Need-part-rest-end
@@ -45,10 +40,10 @@ part-rest-end c = search needs
 
 put-at-requires : tie.Need-put-at-requires
 put-at-requires c κs =
-    let h = sym
-    (rw (c .before .before .before .reading2 .given .1) at (c .before .before .before .before .before .read .ensures)) in
+    let e = c .before .before .dropped-of in
     let new = now (c .before .before .before .before .before .before .before .before .args .new) in
-    rw (tail (c .before .before .before .reading2 .given .0 .0) new) (omega (arith, undecided-left new h))
+    let h = sym (c .before .before .before .before .before .read .ensures) ∙ e .ensures in
+    rw (tail (e .result) new) (omega (arith, undecided-left new h))
 
 all-held-requires : tie.Need-all-held-requires
 all-held-requires c κs = search needs
@@ -57,23 +52,30 @@ same-length : tie.Need-same-length
 same-length c = search needs
 
 returns : tie.Need-returns
-returns c = search needs
+returns c =
+    let e = c .before .before .before .before .before .before .dropped-of in
+    let read = c .before .before .before .before .before .before .before .before .before in
+    let a = read .before .before .before .args in
+    let new = now (a .new) in
+    let h = sym (read .read .ensures) ∙ e .ensures in
+    let rest = tail (e .result) new in
+    gives-more _ [] new _ h (rw rest at (c .all-held .ensures))
+    (ap (take (length (drop (e .result) new))) (rw rest at (c .before .before .before .put-at .ensures))
+    ∙ front-placed (drop (e .result) new) (now (a .array)) (omega (arith, undecided-left new h)))
+
+item-in-new-requires : tie.Need-item-in-new-requires
+item-in-new-requires c κs =
+    let told = c .before .before .reading .given .1 in (
+      c .before .before .before .before .before .before .before .pre,
+      sym
+          (rw told at (c .before .before .before .before .read .ensures)),
+    )
 
 same-length-2 : tie.Need-same-length-2
 same-length-2 c = search needs
 
 returns-2 : tie.Need-returns-2
-returns-2 c =
-    let e = c .before .before .before .before .before .before .before .reading2 .given .0 .0 in
-    let h = sym
-    (rw (c .before .before .before .before .before .before .before .reading2 .given .1) at
-    (c .before .before .before .before .before .before .before .before .before .read .ensures)) in
-    let a = c .before .before .before .before .before .before .before .before .before .before .before .before .args in
-    let new = now (a .new) in
-    let rest = tail e new in
-    gives-more _ [] new _ h (rw rest at (c .all-held .ensures))
-    (ap (take (length (drop e new))) (rw rest at (c .before .before .before .put-at .ensures))
-    ∙ front-placed (drop e new) (now (a .array)) (omega (arith, undecided-left new h)))
+returns-2 c = search needs
 
 pub in-new-spec : {M : Type 1} → statement M
 in-new-spec =
@@ -81,8 +83,8 @@ in-new-spec =
     (tie.spec
     read-requires
     enum-known-reading
-    item-in-new-requires
-    enum-known-reading-2
+    enum-told
+    dropped-of-requires
     sub-rest
     part-rest-start
     part-rest-end
@@ -90,5 +92,6 @@ in-new-spec =
     all-held-requires
     same-length
     returns
+    item-in-new-requires
     same-length-2
     returns-2)

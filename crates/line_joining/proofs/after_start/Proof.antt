@@ -63,14 +63,6 @@ read-requires c κs = search needs
 enum-known-reading : tie.Need-enum-known-reading
 enum-known-reading c = search needs
 
-slice-aggregate-header-item : tie.Need-slice-aggregate-header-item
-slice-aggregate-header-item c = sym (length-take-le _ _ (omega arith))
-
-header-item-requires : tie.Need-header-item-requires
-header-item-requires c κs =
-    let a = c .before .before .before .before .before .before .before .before .before .before .before .before .before .before .args in
-    (c .before .before .before .before .before .before .before .before .before .before .before .before .before .before .pre .0, c .before .before .before .before .before .before .before .before .before .before .before .before .before .before .pre .1, rw (length-take-le (8 - a .kept) (now (a .new)) (omega arith)) (omega arith))
-
 enum-told : tie.Need-enum-told
 enum-told c = search needs
 
@@ -100,7 +92,21 @@ same-length-2 : tie.Need-same-length-2
 same-length-2 c = search needs
 
 returns-2 : tie.Need-returns-2
-returns-2 c =
+returns-2 c = search needs
+
+slice-aggregate-header-item : tie.Need-slice-aggregate-header-item
+slice-aggregate-header-item c = sym (length-take-le _ _ (omega arith))
+
+header-item-requires : tie.Need-header-item-requires
+header-item-requires c κs =
+    let a = c .before .before .before .before .before .before .before .before .before .before .before .before .before .before .args in
+    (c .before .before .before .before .before .before .before .before .before .before .before .before .before .before .pre .0, c .before .before .before .before .before .before .before .before .before .before .before .before .before .before .pre .1, rw (length-take-le (8 - a .kept) (now (a .new)) (omega arith)) (omega arith))
+
+same-length-3 : tie.Need-same-length-3
+same-length-3 c = search needs
+
+returns-3 : tie.Need-returns-3
+returns-3 c =
     let start =
     c .before .before .before .before .before .before .before .before .before .before .before .before .before .before .before .before .before in
     let p = start .pre in
@@ -117,12 +123,6 @@ returns-2 c =
     (told .0 .1 .0)
     (told .0 .1 .1 .0) (now (a .array)) _ (p .5) (sym read) (p .0) (e .4)
     (e .0, e .1 ∙ length-take-le (8 - a .kept) (now (a .new)) (omega arith), e .2, e .3)
-
-same-length-3 : tie.Need-same-length-3
-same-length-3 c = search needs
-
-returns-3 : tie.Need-returns-3
-returns-3 c = search needs
 
 pub after-start-spec : {M : Type 1} → statement M
 after-start-spec =
@@ -141,13 +141,13 @@ after-start-spec =
     slice-aggregate-read
     read-requires
     enum-known-reading
-    slice-aggregate-header-item
-    header-item-requires
     enum-told
     slice-aggregate-len-in
     len-in-requires
     after-header-requires
     same-length-2
     returns-2
+    slice-aggregate-header-item
+    header-item-requires
     same-length-3
     returns-3)
