@@ -17,9 +17,9 @@ use Rattle.ledger.specs.Calls.{Call, readingOf}
 use Rattle.ledger.specs.Refusals.{firstOf}
 use Rattle.ledger.specs.Runs.{openedBy, step, Entry, Run, start, then, run}
 use Rattle.claims.specs.Trace.{Asked, isAccepted, idIn, lastAsked, endings, liveAfter, requests}
-use Rattle.claims.specs.ClockRule.{leaveOf, mayBeLater, mayFollow, keepsClockRule}
 use Rattle.claims.specs.Clauses.{All, _∈_, here, there, Fate, is-live, has-ended, longest, Bounded, Enough}
 use Rattle.claims.proofs.Cases.{by-test}
+use Rattle.claims.proofs.ClockTest.{leaveOf, mayBeLater, mayFollow, keepsClockRule, rule-test}
 use Rattle.claims.proofs.Lists.{all-of, all-map, all-right}
 use Rattle.claims.proofs.Views.{quietIn, Change, stays, joins, leaves, turns, rests-free, rests-busy, View, refuses, accepts, view}
 use Rattle.claims.proofs.Fine.{Sound, Fine, issued-free}
@@ -338,7 +338,7 @@ module _ (limit : ℕ) (enough : Enough limit) where
   -- at every call of a list
   record Told-in-time (s : Run) : Type 0 where
     timed : keepsClockRule (s .past) ≡ true → Timed limit s
-    bounded : Bounded limit (s .past)
+    bounded : Bounded (longest limit) (s .past)
 
   clock-of : (l : Ledger) (c : Call) {d : Done} → View limit l c d → isAccepted (d .answer) ≡ true → l .clock ≤ readingOf c
   clock-of l c (refuses n number buffers same) accepted = let z : _≡_ {A = ℕ} 0 1 = cc in absurd (omega arith)
@@ -351,7 +351,8 @@ module _ (limit : ℕ) (enough : Enough limit) where
       record {
         timed = λ kept. timed-step limit enough s c good kept (told .timed (kept-before e (s .past) kept));
         bounded = (
-          (λ kept.
+          (λ rule.
+              let kept = rule-test (e ∷ s .past) rule in
               let before = told .timed (kept-before e (s .past) kept) in (
                 (λ time answered. quiet-ends s c time good before kept answered),
                 (λ accepted. call-in-time s c good before (clock-of (s .ledger) c (view limit (s .ledger) c) accepted)
@@ -366,7 +367,7 @@ module _ (limit : ℕ) (enough : Enough limit) where
   bounded-run s [] good told = told
   bounded-run s (c ∷ cs) good told = bounded-run (then limit s c) cs (good-step limit enough s c good) (bounded-step s c good told)
 
-  pub always-bounded : (given : ℕ) (cs : List Call) → Bounded limit (run limit (start given) cs .past)
+  pub always-bounded : (given : ℕ) (cs : List Call) → Bounded (longest limit) (run limit (start given) cs .past)
   always-bounded given cs =
       bounded-run (start given) cs (start-good limit given) (record { timed = λ kept. start-timed limit given; bounded = tt })
       .bounded

@@ -1,6 +1,6 @@
 -- No call makes a ledger malformed: what the malformed rule asks for, as facts, is kept by every step.
 use Prim.Native.Nat.{ℕ, suc, _+_, _≤_, _<_}
-use mathlib.Core.Bool.{Bool, true, false, not, _||_}
+use mathlib.Core.Bool.{Bool, true, false, _||_}
 use mathlib.Core.List.{List, [], _∷_, _++_}
 use mathlib.Core.Logic.{_⊎_, inl, inr}
 use mathlib.Core.Option.{Option, none, some}
@@ -19,6 +19,7 @@ use Rattle.ledger.specs.Submitting.{lastId, isLive, idAfter, issued}
 use Rattle.ledger.specs.Receiving.{flies}
 use Rattle.ledger.specs.Calls.{Call}
 use Rattle.ledger.specs.Refusals.{some-of, isOutside, twoEqual, fliesOnce, flights, wronglyOften, waitsForNothing, isLate, malformed}
+use Rattle.claims.specs.Trace.{idIn}
 use Rattle.claims.proofs.Cases.{by-test}
 use Rattle.claims.specs.Clauses.{All, Enough}
 use Rattle.claims.proofs.Lists.{all-map, all-append, all-left, all-right}
@@ -76,7 +77,7 @@ live-append id (x ∷ xs) ys =
     let rest = live-append id xs ys in
     by-test (λ b. (b || isLive id (xs ++ ys)) ≡ ((b || isLive id xs) || isLive id ys)) (eqb (x .id) id) (λ e. refl) (λ e. rest)
 
-neither : (a b : Bool) → a || b ≡ false → (a ≡ false) × (b ≡ false)
+pub neither : (a b : Bool) → a || b ≡ false → (a ≡ false) × (b ≡ false)
 neither true b h = let z : _≡_ {A = ℕ} 0 1 = cc in absurd (omega arith)
 neither false b h = (refl, h)
 
@@ -206,16 +207,20 @@ module _ {limit r t : ℕ} where
         one = omega arith;
       }
 
-module _ (limit : ℕ) (enough : Enough limit) where
-  pub issued-free : (l : Ledger) → Fine limit l → (length (l .live) ≡ limit → ⊥) → isLive (issued l) (l .live) ≡ false
-  issued-free l h room =
-      let small = h .small in
-      let few = h .fit .few in
-      first-free (l .reserved) (omega arith) (length (l .live)) (l .live) (omega arith) (omega (arith, room)) (h .next)
+pub issued-free : (limit : ℕ) → Enough limit → (l : Ledger) → Fine limit l → (length (l .live) ≡ limit → ⊥)
+    → isLive (issued l) (l .live) ≡ false
+issued-free limit enough l h room =
+    let small = h .small in
+    let few = h .fit .few in
+    first-free (l .reserved) (omega arith) (length (l .live)) (l .live) (omega arith) (omega (arith, room)) (h .next)
 
-  pub fit-change : (l : Ledger) {t : ℕ} {d : Done} → Fine limit l → l .clock ≤ t → Change limit l t d
-      → Fit limit (l .reserved) t (d .next .live)
-  fit-change l {t} h go-on change = go change
+module _ (limit : ℕ) (l : Ledger) (h : Fine limit l) where
+  -- where a call issues an ID, there is room, and then the ID is not live
+  abbrev IssuesFree : Done → Type 0
+  IssuesFree d = (id : ℕ) → idIn (d .answer) ≡ some id → (length (l .live) ≡ limit → ⊥) → isLive (issued l) (l .live) ≡ false
+
+  fit-change : {t : ℕ} {d : Done} → l .clock ≤ t → IssuesFree d → Change limit l t d → Fit limit (l .reserved) t (d .next .live)
+  fit-change {t} {d} go-on free change = go change
     where
       now : Fit limit (l .reserved) t (l .live)
       now =
@@ -231,7 +236,7 @@ module _ (limit : ℕ) (enough : Enough limit) where
       small : l .reserved < lastId
       small = let small = h .small in omega arith
 
-      go : {d : Done} → Change limit l t d → Fit limit (l .reserved) t (d .next .live)
+      go : Change limit l t d → Fit limit (l .reserved) t (d .next .live)
       go (stays shows e) = rw e now
       go (rests-free current free idle shows e) = rw e now
       go (rests-busy current b a q f among flying calm shows e) = rw e now
@@ -241,12 +246,12 @@ module _ (limit : ℕ) (enough : Enough limit) where
       go (joins q new named short room shows e) =
           rw e (fit-more (l .live) q new (rw named (free-unreserved (l .reserved) small (length (l .live)) (l .live) (h .next)))
           short
-          (rw named (issued-free l h room)) room now)
+          (rw named (free (q .id) (shows .asks) room)) room now)
 
-  pub fine-step : (l : Ledger) (c : Call) {d : Done} → Fine limit l → View limit l c d → Fine limit (d .next)
-  fine-step l c h (refuses n refused buffers same) = rw same h
-  fine-step l c {d} h (accepts go-on accepted keeps change) =
-      let fit = fit-change l h go-on change in
+  fine-kept : (c : Call) {d : Done} → IssuesFree d → View limit l c d → Fine limit (d .next)
+  fine-kept c free (refuses n refused buffers same) = rw same h
+  fine-kept c {d} free (accepts go-on accepted keeps change) =
+      let fit = fit-change go-on free change in
       let small = h .small in
       let below : l .reserved < lastId = omega arith in
       record {
@@ -261,6 +266,15 @@ module _ (limit : ℕ) (enough : Enough limit) where
       ids below (inl e) = rw e (h .next)
       ids below (inr e) =
           rw e (after-unreserved (l .reserved) below (free-unreserved (l .reserved) below (length (l .live)) (l .live) (h .next)))
+
+pub fine-step : (limit : ℕ) → Enough limit → (l : Ledger) (c : Call) {d : Done} → Fine limit l → View limit l c d → Fine limit (d .next)
+fine-step limit enough l c h v = fine-kept limit l h c (λ id asked room. issued-free limit enough l h room) v
+
+-- a call that issues no ID, whatever the limit
+pub fine-calm : (limit : ℕ) (l : Ledger) (c : Call) {d : Done} → idIn (d .answer) ≡ none → Fine limit l → View limit l c d
+    → Fine limit (d .next)
+fine-calm limit l c unasked h v =
+    fine-kept limit l h c (λ id asked room. (let z : _≡_ {A = ℕ} 0 1 = cc in absurd (omega arith))) v
 
 -- none of the malformed rule's clauses holds
 none-of : (test : Request → Bool) (P : Request → Type 0) → ((q : Request) → P q → test q ≡ false) → (live : List Request)

@@ -8,36 +8,65 @@ use mathlib.Core.Option.{Option, none, some}
 use mathlib.Core.Path.{_≡_, refl}
 use native.Mathlib.Omega.{arith}
 use lib.ListN.{length}
-use Rattle.message.specs.Bytes.{syn, ack, nak, dataSeq}
+use Rattle.message.specs.Bytes.{syn, ack, nak, dataSeq, total, maxLen}
 use Rattle.message.specs.Items.{damagedPayload, decided, scan}
+use Rattle.line.specs.Receiving.{more}
 use Rattle.link.specs.Frames.{Frame}
 use Rattle.ledger.specs.Parts.{liveMax, inFlight, waiting, Request, Ledger}
 use Rattle.ledger.specs.Answers.{noResponse, stray, Ending, quiet, refused, polled}
-use Rattle.ledger.specs.Submitting.{isLive, issued}
+use Rattle.ledger.specs.Submitting.{lastId, isLive, issued}
 use Rattle.ledger.specs.Receiving.{only, onData, onMessage, ackMessage}
 use Rattle.ledger.specs.Polling as polling
 use Rattle.ledger.specs.Polling.{responseTime, overdueIn}
 use Rattle.ledger.specs.Calls.{Call, readingOf, lentBy}
-use Rattle.ledger.specs.Refusals.{refusal}
-use Rattle.ledger.specs.Runs.{step, start, reservedFor, run}
+use Rattle.ledger.specs.Refusals.{malformed, refusal}
+use Rattle.ledger.specs.Runs.{step, outcomesOf, Entry, start, reservedFor, run}
 use Rattle.ledger.specs.Examples.{AreTrue, table}
 use Rattle.ledger.specs.FaultRuns.{faultRuns}
 use Rattle.ledger.specs.ItemRuns.{itemRuns}
 use Rattle.ledger.specs.RefusalRuns.{refusalRuns}
 use Rattle.ledger.proofs.Examples as examples
-use Rattle.claims.specs.Trace.{liveAfter}
-use Rattle.claims.specs.Clauses.{All, OutcomeClaims, LedgerClaims, Enough, longest}
-use Rattle.claims.specs.PlainTerms.{counts, Matched, NothingToDo, QuietTime, Counted}
+use Rattle.claims.specs.Trace.{endings, liveAfter, requests}
+use Rattle.claims.specs.ClockRule.{ClockRule}
+use Rattle.claims.specs.Resting.{restless, pollsAt, beforeQuiet, PolledAt, pollsToRest}
+use Rattle.claims.specs.Hearing.{bytesTaken, lastReceive, HeardAs, HeardAll, HeardAlike}
+use Rattle.claims.specs.Clauses.{All, Bounded, OutcomeClaims, LedgerClaims, Enough, longest}
+use Rattle.claims.specs.PlainTerms.{counts, Matched, NothingToDo, QuietTime, Counted, Tight}
 use Rattle.claims.proofs.Fine as fine
 use Rattle.claims.proofs.Fine.{not-malformed}
 use Rattle.claims.proofs.Views.{view}
 use Rattle.claims.proofs.Along.{start-good, good-run}
+use Rattle.claims.proofs.Hearing as hearing
 use Rattle.claims.proofs.QuietTime as quiet-times
 use Rattle.claims.proofs.Bound.{always-bounded}
+use Rattle.claims.proofs.Resting as resting
+use Rattle.claims.proofs.RestingWitness.{tight}
+use Rattle.claims.proofs.WhilePolled as while-polled
 use Rattle.claims.proofs.Shown.{same-ids, same-length, all-unreserved, all-distinct, reserved-stays}
 use Rattle.claims.proofs.Refused as refused
 use Rattle.claims.proofs.Faults as faults
 use Rattle.claims.proofs.UselessBuilds as useless
+
+-- "How bytes become items", demand 2's statement about cuts: the items of a list's accepted receives, in order, with what is held in the
+-- end, are those of the bytes taken, joined, whatever submits, polls, refused calls and cuts stand between
+pub heard-as-joined : (limit given : ℕ) (cs : List Call)
+    → HeardAs (run limit (start given) cs .past) (run limit (start given) cs .ledger .held)
+heard-as-joined limit given cs = hearing.as-joined limit given cs
+
+-- where the last receive answered *more*, all of them have been answered
+pub heard-all : (limit given : ℕ) (cs : List Call) → lastReceive (run limit (start given) cs .past) ≡ more
+    → HeardAll (run limit (start given) cs .past) (run limit (start given) cs .ledger .held)
+heard-all limit given cs last = hearing.all-answered limit given cs last
+
+-- so two lists that take the same bytes, and whose last receive answered *more*, have the same items and hold the same bytes
+pub same-bytes-same-items : (limit limit' given given' : ℕ) (cs cs' : List Call)
+    → bytesTaken (run limit (start given) cs .past) ≡ bytesTaken (run limit' (start given') cs' .past)
+    → lastReceive (run limit (start given) cs .past) ≡ more → lastReceive (run limit' (start given') cs' .past) ≡ more
+    → HeardAlike (run limit (start given) cs .past) (run limit' (start given') cs' .past) (run limit (start given) cs .ledger .held)
+    (run limit' (start given') cs' .ledger .held)
+same-bytes-same-items limit limit' given given' cs cs' same last last' =
+    hearing.alike (run limit (start given) cs .past) (run limit' (start given') cs' .past) (run limit (start given) cs .ledger .held)
+    (run limit' (start given') cs' .ledger .held) (heard-all limit given cs last) (heard-all limit' given' cs' last') same
 
 -- **Submit**, "The ID is the first one not live": the one that is issued is not live, after any calls, where a submit finds room
 pub issued-not-live : (limit : ℕ) → Enough limit → (given : ℕ) (cs : List Call)
@@ -91,6 +120,22 @@ quiet-time limit enough given cs c time h =
     quiet-times.quiet-time limit l c (step limit l c) time (good-run limit enough (start given) cs (start-good limit given) .fine)
     (view limit l c) h
 
+-- polls at one reading come to rest: from every ledger that is not malformed, at most as many come before a quiet one as are live
+pub rests-by-live : (limit : ℕ) (l : Ledger) (t : ℕ) (outputs : List (List ℕ)) → malformed limit l ≡ false → l .clock ≤ t
+    → All (λ output. total maxLen ≤ length output) outputs
+    → beforeQuiet (outcomesOf limit l (pollsAt t outputs)) ≤ length (l .live)
+rests-by-live limit l t outputs sound on room = resting.rests-by-live limit l t outputs sound on room
+
+-- and so at most as many as may be live
+pub comes-to-rest : (limit : ℕ) (l : Ledger) (t : ℕ) (outputs : List (List ℕ)) → malformed limit l ≡ false → l .clock ≤ t
+    → All (λ output. total maxLen ≤ length output) outputs
+    → beforeQuiet (outcomesOf limit l (pollsAt t outputs)) ≤ limit
+comes-to-rest limit l t outputs sound on room = resting.comes-to-rest limit l t outputs sound on room
+
+-- no smaller number does: for every limit for which there are IDs, from some ledger that is not malformed as many do something
+pub rests-no-sooner : (limit : ℕ) → limit ≤ lastId → Tight limit
+rests-no-sooner limit fits = tight limit fits
+
 -- the count of a frame in flight is how many frames polls have put in their output
 pub counts-frames : (limit : ℕ) → Enough limit → (given : ℕ) (cs : List Call) → (b a : List Request) (q : Request) (f : Frame)
     → run limit (start given) cs .ledger .live ≡ b ++ (q ∷ a) → q .state ≡ inFlight f → Counted (run limit (start given) cs) q f
@@ -116,8 +161,31 @@ outcome-claims limit enough given cs =
       distinct = all-distinct h live (s .ledger .live) (fit .distinct) owners;
       unreserved = rw (reserved-stays limit (start given) cs) at
           (all-unreserved (s .ledger .reserved) (s .ledger .clock) h live (s .ledger .live) (fit .each) owners);
-      inTime = always-bounded limit enough given cs;
+      rests = λ reading. omega (arith, resting.always-rests limit enough given cs reading);
     }
+
+-- under "the rule for the clock" every request ends in time: 3,000 ms for each that may be live, and 3,000
+pub ends-in-time : (limit : ℕ) → Enough limit → (given : ℕ) (cs : List Call)
+    → Bounded (longest limit) (run limit (start given) cs .past)
+ends-in-time limit enough given cs = always-bounded limit enough given cs
+
+-- who keeps polling meets a quiet answer, and so the bound: where the newest accepted calls are so many polls at one reading, every
+-- request that was accepted so long before has ended. This is from calls and outcomes alone, for every bound that they keep
+pub polled-ends : (limit bound : ℕ) (past : List Entry) → ClockRule past → Bounded bound past
+    → ((reading : ℕ) → restless reading past ≤ limit) → ((place : ℕ) → endings place past ≤ 1)
+    → (t : ℕ) → PolledAt t (pollsToRest limit) past
+    → All (λ a. a .time + bound ≤ t → endings (a .place) past ≡ 1) (requests past)
+polled-ends limit bound past rule bounded rests once t polls =
+    while-polled.polled-ends limit bound past rule bounded rests once t polls
+
+-- and so of every list of calls that keeps the clock rule, with the bound above
+pub ends-while-polled : (limit : ℕ) → Enough limit → (given : ℕ) (cs : List Call)
+    → let past = run limit (start given) cs .past in ClockRule past → (t : ℕ) → PolledAt t (pollsToRest limit) past
+    → All (λ a. a .time + longest limit ≤ t → endings (a .place) past ≡ 1) (requests past)
+ends-while-polled limit enough given cs rule t polls =
+    let past = run limit (start given) cs .past in
+    let claims = outcome-claims limit enough given cs in
+    polled-ends limit (longest limit) past rule (ends-in-time limit enough given cs) (claims .rests) (claims .once) t polls
 
 -- and of the ledger itself
 pub ledger-claims : (limit : ℕ) → Enough limit → (given : ℕ) (cs : List Call)
@@ -142,12 +210,18 @@ ledger-claims limit enough given cs =
 pub three-are-few : Enough liveMax
 three-are-few = omega arith
 
--- for three, 12,000 ms
-pub twelve-seconds : longest liveMax ≡ 12000
-twelve-seconds = refl
-
 pub outcome-claims-3 : (given : ℕ) (cs : List Call) → OutcomeClaims liveMax (reservedFor given) (run liveMax (start given) cs .past)
 outcome-claims-3 given cs = outcome-claims liveMax three-are-few given cs
+
+-- for three, 12,000 ms
+pub ends-in-time-3 : (given : ℕ) (cs : List Call) → Bounded 12000 (run liveMax (start given) cs .past)
+ends-in-time-3 given cs = ends-in-time liveMax three-are-few given cs
+
+-- for three, four polls at one reading
+pub ends-while-polled-3 : (given : ℕ) (cs : List Call)
+    → let past = run liveMax (start given) cs .past in ClockRule past → (t : ℕ) → PolledAt t 4 past
+    → All (λ a. a .time + 12000 ≤ t → endings (a .place) past ≡ 1) (requests past)
+ends-while-polled-3 given cs rule t polls = ends-while-polled liveMax three-are-few given cs rule t polls
 
 pub ledger-claims-3 : (given : ℕ) (cs : List Call) → LedgerClaims liveMax (reservedFor given) (run liveMax (start given) cs)
 ledger-claims-3 given cs = ledger-claims liveMax three-are-few given cs

@@ -18,6 +18,7 @@ use Rattle.line.specs.Receiving as line
 use Rattle.line.specs.Receiving.{heldMax, more, item}
 use Rattle.line.proofs.Laws.{receive-bounded}
 use Rattle.command.specs.Payload.{Fields, maxData, isCommand, dataIn}
+use Rattle.link.specs.SequenceIds.{seqAfter}
 use Rattle.link.specs.Frames.{Frame, acknowledgedBy, withMark, firstSent, due, mayGoAgain, sentAgain}
 use Rattle.link.specs.Repeats.{Seen, isRepeat, seenAfter}
 use Rattle.ledger.specs.Parts.{State, queued, inFlight, waiting, Request, Ledger, withState, Search, nobody, somebody, oldest}
@@ -25,9 +26,9 @@ use Rattle.ledger.specs.Answers as answer
 use Rattle.ledger.specs.Answers.{Ending, Command, Poll, sent, ended, quiet, Answer, refused, opened, submitted, received, polled, Done}
 use Rattle.ledger.specs.Submitting.{idAfter, issued}
 use Rattle.ledger.specs.Receiving as receiving
-use Rattle.ledger.specs.Receiving.{Act, only, frameIn, flies, provided, acknowledgedIn, onAck, onNak, matches, onResponse, commandIn, onData, onSequenced, onMessage, act, replying, remembering, nakMessage, ackMessage, receivedAs}
+use Rattle.ledger.specs.Receiving.{Act, only, flies, provided, acknowledgedIn, onAck, onNak, matches, onResponse, commandIn, onData, onSequenced, onMessage, act, replying, remembering, nakMessage, ackMessage, receivedAs}
 use Rattle.ledger.specs.Polling as polling
-use Rattle.ledger.specs.Polling.{frameBytes, polledAs, overdueIn, queuedIn, earliest, orElse, step1, step2, step3, step4}
+use Rattle.ledger.specs.Polling.{frameBytes, polledAs, overdueIn, queuedIn, earliest}
 use Rattle.ledger.specs.Calls.{Call, submit, receive, poll, readingOf, lentBy}
 use Rattle.ledger.specs.Refusals.{malformed, firstOf, refusal}
 use Rattle.ledger.specs.Runs.{step, answersTo}
@@ -36,6 +37,7 @@ use Rattle.claims.proofs.Cases.{by-test}
 use Rattle.claims.specs.Clauses.{All}
 use Rattle.claims.proofs.Lists.{take-front}
 use Rattle.claims.proofs.Searches.{Looked, none-shows, one-shows, look}
+use Rattle.claims.proofs.PollCases.{flies-state, Acted, no-response, goes-again, gives-up, goes-first, quiet-free, quiet-busy, acted}
 
 -- the time of a quiet answer
 abbrev pub quietOf : Poll → Option (Option ℕ)
@@ -98,11 +100,6 @@ pub data View (limit : ℕ) (l : Ledger) (c : Call) (d : Done) : Type 0 where
       → Change limit l (readingOf c) d → View limit l c d
 
 -- what a search showed of the state
-flies-state : (s : State) {f : Frame} → frameIn s ≡ some f → s ≡ inFlight f
-flies-state queued h = let z : _≡_ {A = ℕ} 0 1 = cc in absurd (omega arith)
-flies-state (inFlight g) h = cc
-flies-state (waiting since) h = let z : _≡_ {A = ℕ} 0 1 = cc in absurd (omega arith)
-
 acknowledged-state : (seq : ℕ) (s : State) {f : Frame} → acknowledgedIn seq s ≡ some f → s ≡ inFlight f
 acknowledged-state seq queued h = let z : _≡_ {A = ℕ} 0 1 = cc in absurd (omega arith)
 acknowledged-state seq (inFlight g) {f} h =
@@ -111,11 +108,6 @@ acknowledged-state seq (inFlight g) {f} h =
     (λ e h. let z : _≡_ {A = ℕ} 0 1 = cc in absurd (omega arith))
     h
 acknowledged-state seq (waiting since) h = let z : _≡_ {A = ℕ} 0 1 = cc in absurd (omega arith)
-
-queued-state : (s : State) {u : Unit {0}} → queuedIn s ≡ some u → s ≡ queued
-queued-state queued h = refl
-queued-state (inFlight g) h = let z : _≡_ {A = ℕ} 0 1 = cc in absurd (omega arith)
-queued-state (waiting since) h = let z : _≡_ {A = ℕ} 0 1 = cc in absurd (omega arith)
 
 -- what else an outcome says does not matter
 alike : {limit t : ℕ} {l : Ledger} {d d' : Done} → idIn (d' .answer) ≡ idIn (d .answer)
@@ -237,7 +229,7 @@ put-in-front bytes [] = take-front bytes (drop (0 + length bytes) [])
 put-in-front bytes (x ∷ xs) = take-front bytes (drop (0 + length bytes) (x ∷ xs))
 
 module _ (limit : ℕ) (l : Ledger) (output : List ℕ) (t : ℕ) where
-  -- a poll, by the first step that applies
+  -- a poll, by what it does
   to-sending : (b a : List Request) (it : Request) (f : Frame) (next : ℕ) → l .live ≡ b ++ (it ∷ a)
       → Turn l t it (it .state) (inFlight f) (some (frameBytes it (f .seq)))
       → (it .state ≡ queued → All (λ x. flies x ≡ none) (l .live) × All (λ x. queuedIn (x .state) ≡ none) b)
@@ -257,40 +249,18 @@ module _ (limit : ℕ) (l : Ledger) (output : List ℕ) (t : ℕ) where
       → Change limit l t (polledAs l (polling.ends l t cause b it a) output t)
   to-ending cause b a it among = leaves b a it _ among refl (record { asks = refl; ends = refl; sends = refl; rests = refl }) refl
 
-  module _ (current : All (λ x. overdueIn t (x .state) ≡ none) (l .live)) where
-    to-step3 : All (λ x. flies x ≡ none) (l .live) → (s : Search (Unit {0})) → Looked (λ q. queuedIn (q .state)) (l .live) s
-        → Change limit l t (polledAs l (orElse (step3 l t nobody s) (step4 l t)) output t)
-    to-step3 free nobody (none-shows h) = rests-free current free h
-        (record { asks = refl; ends = refl; sends = refl; rests = refl }) refl
-    to-step3 free (somebody b it w a) (one-shows among shown h) =
-        to-sending b a it (firstSent (l .nextSeq) t) _ among (rw (queued-state (it .state) shown) starts) (λ e. (free, h))
-
-    to-step2 : (s : Search Frame) → Looked flies (l .live) s → Change limit l t (polledAs l (orElse (step2 l t s)
-        (orElse (step3 l t s (oldest (λ q. queuedIn (q .state)) (l .live))) (step4 l t))) output t)
-    to-step2 nobody (none-shows free) =
-        to-step3 free (oldest (λ q. queuedIn (q .state)) (l .live)) (look (λ q. queuedIn (q .state)) (l .live))
-    to-step2 (somebody b it f a) (one-shows among shown h) =
-        let flying = flies-state (it .state) shown in
-        let over = polling.ends l t answer.noAcknowledgement b it a in
-        let resent = polling.sends l t (sentAgain f t) (l .nextSeq) b it a in
-        by-test (λ x. Change limit l t (polledAs l (orElse (if x (some (if (mayGoAgain f) resent over)) none)
-        (step4 l t)) output t)) (due f t)
-        (λ late. by-test (λ x. Change limit l t (polledAs l (if x resent over) output t)) (mayGoAgain f)
-        (λ may. to-sending b a it (sentAgain f t) (l .nextSeq) among (rw flying (sends-again late may))
-        (λ e. let z : _≡_ {A = ℕ} 0 1 = cc in absurd (omega arith)))
-        (λ may. to-ending answer.noAcknowledgement b a it among))
-        (λ calm. rests-busy current b a it f among flying calm
-        (record { asks = refl; ends = refl; sends = refl; rests = refl }) refl)
-
-  to-step1 : (s : Search (Unit {0})) → Looked (λ q. overdueIn t (q .state)) (l .live) s
-      → Change limit l t (polledAs l (orElse (step1 l t s) (orElse (step2 l t (oldest flies (l .live)))
-      (orElse (step3 l t (oldest flies (l .live)) (oldest (λ q. queuedIn (q .state)) (l .live))) (step4 l t)))) output t)
-  to-step1 nobody (none-shows current) = to-step2 current (oldest flies (l .live)) (look flies (l .live))
-  to-step1 (somebody b it w a) (one-shows among shown h) = to-ending answer.noResponse b a it among
-
-  to-poll : Change limit l t (polling.poll l output t)
-  unfolding polling.act
-  to-poll = to-step1 (oldest (λ q. overdueIn t (q .state)) (l .live)) (look (λ q. overdueIn t (q .state)) (l .live))
+  to-poll : (a : polling.Act) → Acted l t a → Change limit l t (polledAs l a output t)
+  to-poll a (no-response b x q among late) = to-ending answer.noResponse b x q among
+  to-poll a (goes-again b x q f among flying late may) =
+      to-sending b x q (sentAgain f t) (l .nextSeq) among (rw flying (sends-again late may))
+      (λ e. let z : _≡_ {A = ℕ} 0 1 = cc in absurd (omega arith))
+  to-poll a (gives-up b x q f among flying late) = to-ending answer.noAcknowledgement b x q among
+  to-poll a (goes-first b x q among new free idle) =
+      to-sending b x q (firstSent (l .nextSeq) t) (seqAfter (l .nextSeq)) among (rw new starts) (λ e. (free, idle))
+  to-poll a (quiet-free current free idle) =
+      rests-free current free idle (record { asks = refl; ends = refl; sends = refl; rests = refl }) refl
+  to-poll a (quiet-busy current b x q f among flying calm) =
+      rests-busy current b x q f among flying calm (record { asks = refl; ends = refl; sends = refl; rests = refl }) refl
 
 -- a call that the table does not refuse
 pub record Passes (limit : ℕ) (l : Ledger) (c : Call) : Type 0 where
@@ -343,7 +313,7 @@ accepted limit l (submit fields bytes wanted t) h =
 accepted limit l (receive bytes reply buffer t) h =
     accepts (passes limit l (receive bytes reply buffer t) h .clock) (to-receive limit l bytes reply buffer t .0)
     (to-receive limit l bytes reply buffer t .1) (to-receive limit l bytes reply buffer t .2)
-accepted limit l (poll output t) h = go (polling.act l t) (to-poll limit l output t)
+accepted limit l (poll output t) h = go (polling.act l t) (to-poll limit l output t (polling.act l t) (acted l t))
   where
     go : (a : polling.Act) → Change limit l t (polledAs l a output t) → View limit l (poll output t) (polledAs l a output t)
     go (polling.does p bytes next live) changed =

@@ -14,7 +14,8 @@ use Rattle.ledger.specs.Calls.{readingOf}
 use Rattle.ledger.specs.Refusals.{flights, malformed}
 use Rattle.ledger.specs.Runs.{Entry, Run}
 use Rattle.claims.specs.Trace.{Asked, isAccepted, endingIn, frameIn, namedBy, lastAsked, endings, frames, liveAfter, requests}
-use Rattle.claims.specs.ClockRule.{keepsClockRule}
+use Rattle.claims.specs.ClockRule.{ClockRule}
+use Rattle.claims.specs.Resting.{restless}
 
 -- every element of a list has a property
 abbrev pub All : {A : Type 0} → (A → Type 0) → List A → Type 0
@@ -75,22 +76,20 @@ Enough limit = limit + reservedMax < lastId
 abbrev pub longest : (limit : ℕ) → ℕ
 longest limit = 3000 * limit + 3000
 
--- the bound at a call: a request accepted at T has ended once a poll at T + 3,000 L + 3,000 or later answers quiet
-abbrev pub EndsInTime : (limit : ℕ) → Entry → (before : List Entry) → Type 0
-EndsInTime limit e before =
+-- a bound in milliseconds, at a call: a request accepted at T has ended once a poll at T + the bound or later answers quiet
+abbrev pub EndsInTime : (bound : ℕ) → Entry → (before : List Entry) → Type 0
+EndsInTime bound e before =
     (time : Option ℕ) → e .answer ≡ polled (quiet time)
-    → All (λ a. a .time + longest limit ≤ readingOf (e .call) → endings (a .place) (e ∷ before) ≡ 1) (requests (e ∷ before))
+    → All (λ a. a .time + bound ≤ readingOf (e .call) → endings (a .place) (e ∷ before) ≡ 1) (requests (e ∷ before))
 
 -- and no accepted call comes later than that while a request is live
-abbrev pub NoneLeft : (limit : ℕ) → Entry → (before : List Entry) → Type 0
-NoneLeft limit e before =
-    isAccepted (e .answer) ≡ true → All (λ a. readingOf (e .call) ≤ a .time + longest limit) (liveAfter before)
+abbrev pub NoneLeft : (bound : ℕ) → Entry → (before : List Entry) → Type 0
+NoneLeft bound e before = isAccepted (e .answer) ≡ true → All (λ a. readingOf (e .call) ≤ a .time + bound) (liveAfter before)
 
 -- at every call of a list that keeps the clock rule up to it
-abbrev pub Bounded : (limit : ℕ) → List Entry → Type 0
-Bounded limit [] = Unit
-Bounded limit (e ∷ before) =
-    (keepsClockRule (e ∷ before) ≡ true → EndsInTime limit e before × NoneLeft limit e before) × Bounded limit before
+abbrev pub Bounded : (bound : ℕ) → List Entry → Type 0
+Bounded bound [] = Unit
+Bounded bound (e ∷ before) = (ClockRule (e ∷ before) → EndsInTime bound e before × NoneLeft bound e before) × Bounded bound before
 
 -- what is claimed of calls and outcomes alone, where at most `limit` requests may be live and IDs up to `reserved` are events'
 pub record OutcomeClaims (limit reserved : ℕ) (past : List Entry) : Type 0 where
@@ -105,8 +104,8 @@ pub record OutcomeClaims (limit reserved : ℕ) (past : List Entry) : Type 0 whe
   pub few : length (liveAfter past) ≤ limit
   pub distinct : DistinctIds (liveAfter past)
   pub unreserved : All (Unreserved reserved) (liveAfter past)
-  -- under "the rule for the clock" every request ends in time
-  pub inTime : Bounded limit past
+  -- polls at one reading answer something else than *quiet* at most so many times in a row, refused calls aside
+  pub rests : (reading : ℕ) → restless reading past ≤ limit
 
 -- what is claimed of the ledger itself
 pub record LedgerClaims (limit reserved : ℕ) (s : Run) : Type 0 where

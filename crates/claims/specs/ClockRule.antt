@@ -1,38 +1,36 @@
--- Document 01, "The rule for the clock", on calls and outcomes alone.
-use Prim.Native.Nat.{ℕ, _+_}
-use mathlib.Core.Bool.{Bool, true, false, not, _&&_, _||_, cond as if}
+-- Document 01, "The rule for the clock", on calls and outcomes alone. The same as a test is in `proofs/ClockTest.antt`, with the laws that
+-- the two agree (`rule-test`, `test-rule`).
+use Prim.Native.Nat.{ℕ, _+_, _≤_, _<_}
+use mathlib.Core.Bool.{cond as if}
 use mathlib.Core.List.{List, [], _∷_}
-use mathlib.Core.Option.{none, some}
-use lib.Dec.{leb, ltb}
-use Rattle.ledger.specs.Answers.{Poll, sent, ended, quiet, Answer, refused, opened, submitted, received, polled}
+use mathlib.Core.Option.{Option, some}
+use mathlib.Core.Path.{_≡_}
+use Rattle.ledger.specs.Answers.{quiet, polled}
 use Rattle.ledger.specs.Calls.{readingOf}
 use Rattle.ledger.specs.Runs.{Entry}
 use Rattle.claims.specs.Trace.{isAccepted}
 
--- "the one before was a poll that answered quiet", with "the time it named, if any"
-abbrev pub leaveOf : Poll → (reading later : ℕ) → Bool
-leaveOf (sent n) reading later = false
-leaveOf (ended x) reading later = false
-leaveOf (quiet none) reading later = true
-leaveOf (quiet (some time)) reading later = leb later (reading + time)
+-- "The rule for the clock looks at accepted calls that take one.": those of a list, newest first. Every call after open takes one
+unfoldable pub acceptedIn : List Entry → List Entry
+acceptedIn [] = []
+acceptedIn (e ∷ es) = if (isAccepted (e .answer)) (e ∷ acceptedIn es) (acceptedIn es)
 
--- whether a reading may be later than that of the call before, by its answer
-abbrev pub mayBeLater : Answer → (reading later : ℕ) → Bool
-mayBeLater (refused number) reading later = false
-mayBeLater opened reading later = false
-mayBeLater (submitted id) reading later = false
-mayBeLater (received r) reading later = false
-mayBeLater (polled p) reading later = leaveOf p reading later
+-- "the one before was a poll that answered quiet, and the later reading is at most that poll's reading plus the time it named, if any"
+pub record Waited (before later : Entry) : Type 0 where
+  pub time : Option ℕ
+  pub rested : before .answer ≡ polled (quiet time)
+  pub within : (ms : ℕ) → time ≡ some ms → readingOf (later .call) ≤ readingOf (before .call) + ms
 
--- "accepted calls that take [a clock]": whether a reading may follow on those before; "The first reading is free."
-unfoldable pub mayFollow : List Entry → (reading : ℕ) → Bool
-mayFollow [] later = true
-mayFollow (e ∷ es) later =
-    if (isAccepted (e .answer))
-    (if (ltb (readingOf (e .call)) later) (mayBeLater (e .answer) (readingOf (e .call)) later) true)
-    (mayFollow es later)
+-- "Where the reading of one is later than that of the one before it"
+abbrev pub MayFollow : (before later : Entry) → Type 0
+MayFollow before later = readingOf (before .call) < readingOf (later .call) → Waited before later
 
--- every accepted call keeps the rule
-unfoldable pub keepsClockRule : List Entry → Bool
-keepsClockRule [] = true
-keepsClockRule (e ∷ es) = (not (isAccepted (e .answer)) || mayFollow es (readingOf (e .call))) && keepsClockRule es
+-- each of them and the one before it; "The first reading is free."
+abbrev pub EachFollows : List Entry → Type 0
+EachFollows [] = Unit
+EachFollows (first ∷ []) = Unit
+EachFollows (later ∷ (before ∷ earlier)) = MayFollow before later × EachFollows (before ∷ earlier)
+
+-- the rule, of what has happened
+abbrev pub ClockRule : List Entry → Type 0
+ClockRule past = EachFollows (acceptedIn past)

@@ -1,4 +1,6 @@
 pub mod Trace
 pub mod ClockRule
+pub mod Resting
+pub mod Hearing
 pub mod Clauses
 pub mod PlainTerms

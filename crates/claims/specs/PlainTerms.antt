@@ -1,19 +1,22 @@
 -- What some rules of document 01 come to, said without the searches of the ledger's definitions: the words in which the statements
 -- about faults and useless builds are made.
-use Prim.Native.Nat.{ℕ, _≤_}
+use Prim.Native.Nat.{ℕ, _≤_, _<_}
 use mathlib.Core.Bool.{true, false}
 use mathlib.Core.List.{List, [], _∷_, _++_, map}
 use mathlib.Core.Option.{Option, none, some}
 use mathlib.Core.Path.{_≡_}
 use lib.ListN.{length}
 use Rattle.command.specs.Payload.{fieldsIn, rqidIn}
+use Rattle.message.specs.Bytes.{total, maxLen}
 use Rattle.link.specs.Frames.{Frame, due}
 use Rattle.ledger.specs.Parts.{State, queued, inFlight, waiting, Request, Ledger}
 use Rattle.ledger.specs.Answers.{Ending}
 use Rattle.ledger.specs.Receiving.{flies, isSent}
 use Rattle.ledger.specs.Polling.{responseTime, overdueIn, queuedIn}
-use Rattle.ledger.specs.Runs.{Run}
+use Rattle.ledger.specs.Refusals.{malformed}
+use Rattle.ledger.specs.Runs.{outcomesOf, Run}
 use Rattle.claims.specs.Trace.{Asked, lastAsked, frames}
+use Rattle.claims.specs.Resting.{pollsAt, beforeQuiet}
 use Rattle.claims.specs.Clauses.{All}
 
 -- the transmissions of a request's frame, and of all
@@ -59,3 +62,13 @@ pub record Counted (s : Run) (q : Request) (f : Frame) : Type 0 where
   pub request : Asked
   pub last : lastAsked (q .id) (s .past) ≡ some request
   pub counts : length (frames (request .place) (s .past)) ≡ f .transmissions
+
+-- the limit is the smallest number for which polling comes to rest: a ledger from which so many polls at a reading do something before
+-- one is *quiet*, whatever outputs they bring
+pub record Tight (limit : ℕ) : Type 0 where
+  pub ledger : Ledger
+  pub reading : ℕ
+  pub sound : malformed limit ledger ≡ false
+  pub clock : ledger .clock ≤ reading
+  pub busy : (outputs : List (List ℕ)) → limit < length outputs → All (λ o. total maxLen ≤ length o) outputs
+      → beforeQuiet (outcomesOf limit ledger (pollsAt reading outputs)) ≡ limit

@@ -20,6 +20,8 @@ unfoldable pub tooLong : List Request → Bool
 tooLong [] = false
 tooLong (q ∷ qs) = ltb maxData (q .len) || tooLong qs
 
+-- the rule. The ledger has it over lists (`malformed`, `ledger/specs/Refusals.antt`): the two agree by the laws `ledger-sound` and
+-- `endpoint-sound` (`refinement/proofs/Sound.antt`).
 -- "R over 255; more than three live; a live or next ID outside R + 1 to 65535; two equal live IDs; two in flight; transmissions not
 -- 1 to 3; data over 248; a waiting request that wants no response; a time later than the clock; more than 265 held"
 unfoldable pub malformed : Endpoint → Bool

@@ -1,8 +1,14 @@
 // The host endpoint (document 01, "The ledger"): open, submit, receive and poll, each proved to answer as the ledger does. None has a
-// `requires`: any endpoint, store, bytes, buffers and clock may be handed in.
+// `requires`: any endpoint, store, bytes, buffers and clock may be handed in. Each contract has two parts: what the call promises by
+// itself, and that it extends every list of calls from open on which ends in the endpoint and the store handed in. The list with this
+// call and its own outcome meets demand 3.
 mod opening; // a fresh endpoint
 
+ghost use Rattle.command.specs.Promises.{fieldsOf};
+ghost use Rattle.ledger.specs.Calls as call;
+ghost use Rattle.host_answers.specs.Promises.{submitResult, receiveResult, pollResult};
 ghost use Rattle.host_answers.specs.Promises as promise;
+ghost use Rattle.host_claims.specs.Claims.{Begins, Extends};
 use command::Fields;
 use endpoint::Endpoint;
 use endpoint::RESERVED_MAX;
@@ -22,7 +28,8 @@ use refusals::RESERVED_OVER;
 // store that is lent to the later calls may hold any bytes.
 // Ruled out: a first ID of R, and a refusal that hands back the endpoint for the R given.
 pub fn open(reserved: u64) -> Opened
-    ensures { λ r. ⌜ promise.Opened r reserved ⌝ }
+    ensures promise { λ r. ⌜ promise.Opened r reserved ⌝ }
+    ensures list { λ r. ⌜ Begins r reserved ⌝ }
 {
     if RESERVED_MAX < reserved {
         return Opened {
@@ -46,7 +53,9 @@ pub fn submit(
     wanted: bool,
     clock: u64,
 ) -> Submitted
-    ensures { λ r. ⌜ promise.Submitted r e fields (now («data» .entry)) wanted clock (now (store .entry)) (now (store .exit)) ⌝ }
+    ensures promise { λ r. ⌜ promise.Submitted r e fields (now («data» .entry)) wanted clock (now (store .entry)) (now (store .exit)) ⌝ }
+    ensures list { λ r. ⌜ Extends e (now (store .entry)) (call.submit (fieldsOf fields) (now («data» .entry)) wanted clock)
+        (submitResult r (now (store .exit))) ⌝ }
 {
     submit_in(e, store, fields, data, wanted, clock)
 }
@@ -62,8 +71,10 @@ pub fn receive(
     buffer: &mut [u8],
     clock: u64,
 ) -> Received
-    ensures { λ r. ⌜ promise.Received r e (now (bytes .entry)) (now (reply .entry)) (now (buffer .entry)) clock (now (store .entry))
+    ensures promise { λ r. ⌜ promise.Received r e (now (bytes .entry)) (now (reply .entry)) (now (buffer .entry)) clock (now (store .entry))
         (now (store .exit)) (now (reply .exit)) (now (buffer .exit)) ⌝ }
+    ensures list { λ r. ⌜ Extends e (now (store .entry)) (call.receive (now (bytes .entry)) (now (reply .entry)) (now (buffer .entry)) clock)
+        (receiveResult r (now (store .exit)) (now (reply .exit)) (now (buffer .exit))) ⌝ }
 {
     receive_in(e, store, bytes, reply, buffer, clock)
 }
@@ -71,7 +82,9 @@ pub fn receive(
 // Does what is due: at most one request ends, or one frame is put into the output. Where nothing is due it answers *quiet*.
 // Ruled out: a fourth transmission, and a queued request sent while another's frame is in flight.
 pub fn poll(e: Endpoint, store: &mut [u8; STORE_LENGTH], output: &mut [u8], clock: u64) -> Polled
-    ensures { λ r. ⌜ promise.Polled r e (now (output .entry)) clock (now (store .entry)) (now (store .exit)) (now (output .exit)) ⌝ }
+    ensures promise { λ r. ⌜ promise.Polled r e (now (output .entry)) clock (now (store .entry)) (now (store .exit)) (now (output .exit)) ⌝ }
+    ensures list { λ r. ⌜ Extends e (now (store .entry)) (call.poll (now (output .entry)) clock)
+        (pollResult r (now (store .exit)) (now (output .exit))) ⌝ }
 {
     poll_in(e, store, output, clock)
 }

@@ -16,7 +16,7 @@ use Rattle.live_changes.specs.Changing.{changed, endingBy, Becomes}
 use Rattle.decisions_verdict.specs.Verdicts.{bytesFor, actOf}
 use Rattle.decisions_verdict.specs.declared.Verdict.{Verdict}
 use Rattle.host_answers.specs.Answers.{endedOf}
-use Rattle.host_answers.specs.Promises.{receiveOutcome}
+use Rattle.host_answers.specs.Promises.{receiveResult}
 use Rattle.host_answers.specs.Code.{Does, DecidesIn}
 use Rattle.host_answers.specs.declared.Ended.{Ended}
 use Rattle.host_answers.specs.declared.ReceiveAnswer.the-variants as answer
@@ -51,7 +51,7 @@ pub acted : (e : Endpoint) (d : Decision) (v : Verdict) (ending : Ended) (live :
     → Becomes live (changed (v .change) (liveOf (e .live) settled)) settled exit
     → Does (receivedAs (ledgerOf e entry) (line.receive (take (e .held) entry) new)
     (actOf v words payload (liveOf (e .live) entry)) reply buffer clock)
-    (receiveOutcome (handedBack e d v ending live held replied clock) exit (placed 0 words reply)
+    (receiveResult (handedBack e d v ending live held replied clock) exit (placed 0 words reply)
     (placed 0 (bytesFor (v .word) payload) buffer))
 acted e d v ending live held replied clock entry new middle settled exit words payload reply buffer decided size settles ended
     becomes =

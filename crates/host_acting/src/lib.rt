@@ -14,7 +14,7 @@ ghost use Rattle.ledger.specs.Parts.{liveMax};
 ghost use Rattle.ledger.specs.Receiving.{receivedAs};
 ghost use Rattle.endpoint.specs.Endpoint.{storeLength, ledgerOf, liveOf};
 ghost use Rattle.live_changes.specs.Changing.{Names};
-ghost use Rattle.host_answers.specs.Promises.{receiveOutcome};
+ghost use Rattle.host_answers.specs.Promises.{receiveResult};
 ghost use Rattle.host_answers.specs.Code.{Ready, Does, DecidesIn};
 ghost use Rattle.decisions_verdict.specs.Verdicts.{bytesFor, actOf, Judges};
 use decisions::judge;
@@ -87,7 +87,7 @@ pub fn act(
         → length words ≡ replied
         → Does (receivedAs (ledgerOf e before) (line.receive (take (e .held) before) new)
         (actOf verdict words payload (liveOf (e .live) before)) reply buffer clock)
-        (receiveOutcome r (now (store .exit)) (placed 0 words reply) (placed 0 (bytesFor (verdict .word) payload) buffer))) ⌝ }
+        (receiveResult r (now (store .exit)) (placed 0 words reply) (placed 0 (bytesFor (verdict .word) payload) buffer))) ⌝ }
 {
     let held = settle_in(store, decision);
     let rows = e.live;

@@ -13,19 +13,19 @@ use Rattle.endpoint.specs.Malformed.{malformed}
 use Rattle.endpoint.specs.declared.Endpoint.{Endpoint}
 use Rattle.refinement.specs.Refusals.{refusalOf}
 use Rattle.refinement.proofs.Sound.{next-sound}
-use Rattle.host_answers.specs.Promises.{Outcome, Refuses, ByTable, Promise}
+use Rattle.host_answers.specs.Promises.{Result, Refuses, ByTable, Promise}
 use Rattle.refusals.specs.Code.{checkOf, withEndpoint}
 use Rattle.refusals.proofs.Table.{passed}
 use Rattle.host_answers.specs.Code.{Sound, Does}
 use Rattle.refusals.specs.declared.Check.{Check}
 use Rattle.refusals.specs.declared.Check.the-variants.{Refused, Accepted}
 
-by-table : (e : Endpoint) (store : List ℕ) (c : Call) (o : Outcome) {n : Option ℕ} → refusalOf e store c ≡ n
+by-table : (e : Endpoint) (store : List ℕ) (c : Call) (o : Result) {n : Option ℕ} → refusalOf e store c ≡ n
     → ByTable n e store c o
     → Promise e store c o
 by-table e store c o table h = rw table h
 
-pub meets : (e : Endpoint) (store : List ℕ) (c : Call) (o : Outcome) → malformed e ≡ false → refusalOf e store c ≡ none
+pub meets : (e : Endpoint) (store : List ℕ) (c : Call) (o : Result) → malformed e ≡ false → refusalOf e store c ≡ none
     → Does (accepts (ledgerOf e store) c) o → Promise e store c o
 meets e store c o fine table does =
     by-table e store c o table (record {
@@ -35,7 +35,7 @@ meets e store c o fine table does =
       sound = next-sound e (o .endpoint) store (o .store) c fine table (does .next) (does .fits) (does .holds);
     })
 
-pub refuses : (e : Endpoint) (store : List ℕ) (c : Call) (o : Outcome) (n : ℕ) → refusalOf e store c ≡ some n
+pub refuses : (e : Endpoint) (store : List ℕ) (c : Call) (o : Result) (n : ℕ) → refusalOf e store c ≡ some n
     → Refuses n e store c o → Promise e store c o
 refuses e store c o n table refused = by-table e store c o table refused
 

@@ -16,7 +16,7 @@ use Rattle.endpoint.specs.Malformed.{malformed}
 use Rattle.endpoint.specs.Places.{Fits}
 use Rattle.endpoint.specs.declared.Endpoint.{Endpoint}
 use Rattle.decisions_verdict.specs.Verdicts.{replyTo}
-use Rattle.host_answers.specs.Promises.{Outcome}
+use Rattle.host_answers.specs.Promises.{Result}
 
 -- what an accepted call works with: an endpoint that is not malformed, a reading not below its clock, and a store of its length
 pub record Sound (e : Endpoint) (clock : ℕ) : Type 0 where
@@ -27,7 +27,7 @@ abbrev pub Ready : Endpoint → (clock : ℕ) (store : List ℕ) → Type 0
 Ready e clock store = Sound e clock × (length store ≡ storeLength)
 
 -- what an accepted call comes to: the ledger's answer, buffers and next ledger, with rows that fit and no more held than may be
-pub record Does (d : Done) (o : Outcome) : Type 0 where
+pub record Does (d : Done) (o : Result) : Type 0 where
   pub answers : o .answer ≡ d .answer
   pub leaves : o .buffers ≡ d .buffers
   pub next : ledgerOf (o .endpoint) (o .store) ≡ d .next

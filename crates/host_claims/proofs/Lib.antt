@@ -1,5 +1,6 @@
 pub mod Refining
 pub mod Refused
 pub mod Received
+pub mod HeardCalls
 pub mod Laws
 pub mod Audited

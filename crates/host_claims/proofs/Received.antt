@@ -8,13 +8,13 @@ use Rattle.ledger.specs.Calls.{receive}
 use Rattle.ledger.specs.Runs.{accepts}
 use Rattle.endpoint.specs.Endpoint.{ledgerOf}
 use Rattle.endpoint.specs.declared.Endpoint.{Endpoint}
-use Rattle.host_answers.specs.Promises.{Meets, receiveOutcome}
+use Rattle.host_answers.specs.Promises.{Meets, receiveResult}
 use Rattle.host_answers.specs.Promises as promise
 use Rattle.host_answers.specs.declared.Received.{Received}
 use Rattle.host_claims.specs.Claims.{Gives, Receipts}
 
 gives : (r : Received) (e : Endpoint) (bytes reply buffer : List ℕ) (clock : ℕ) (store exit replyExit bufferExit : List ℕ)
-    → Meets (accepts (ledgerOf e store) (receive bytes reply buffer clock)) (receiveOutcome r exit replyExit bufferExit)
+    → Meets (accepts (ledgerOf e store) (receive bytes reply buffer clock)) (receiveResult r exit replyExit bufferExit)
     → Gives r e bytes store exit
 unfolding ledger.receive
 gives r e bytes reply buffer clock store exit replyExit bufferExit meets = record {

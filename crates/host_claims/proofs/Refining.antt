@@ -8,31 +8,26 @@ use Rattle.ledger.specs.Parts.{liveMax, Ledger}
 use Rattle.ledger.specs.Answers.{Answer, refused, Done}
 use Rattle.ledger.specs.Calls.{Call, lentBy}
 use Rattle.ledger.specs.Refusals.{refusal}
-use Rattle.ledger.specs.Runs.{open-for, accepts, answersTo, step, Entry, Run, start, then, run}
+use Rattle.ledger.specs.Runs.{open-for, accepts, answersTo, step, Outcome, outcomesOf, ledgerAfter, pastOf, Run, start, run}
+use Rattle.claims.proofs.Runs.{run-agrees, outcomes-append, ledger-append}
 use Rattle.endpoint.specs.Endpoint.{ledgerOf}
 use Rattle.endpoint.specs.Malformed.{malformed}
 use Rattle.endpoint.specs.declared.Endpoint.{Endpoint}
 use Rattle.refinement.specs.Refusals.{refusalOf}
 use Rattle.refinement.proofs.Sound.{same-refusal}
 use Rattle.host_answers.specs.Answers.{openAnswerOf}
-use Rattle.host_answers.specs.Promises.{Outcome, ByTable, Promise}
+use Rattle.host_answers.specs.Promises.{Result, ByTable, Promise}
 use Rattle.host_answers.specs.declared.Opened.{Opened}
-use Rattle.host_claims.specs.Chains.{Chain, opens, submits, receives, polls, callsIn}
-
--- one call after a list of calls
-pub run-then : (limit : ℕ) (s : Run) (cs : List Call) (c : Call) → run limit s (cs ++ (c ∷ [])) ≡ then limit (run limit s cs) c
-unfolding run
-run-then limit s [] c = refl
-run-then limit s (d ∷ cs) c = run-then limit (then limit s d) cs c
+use Rattle.host_claims.specs.Chains.{outcomeFrom, Chain, opens, goes-on}
 
 -- what a promise comes to, where the endpoint is not malformed: the ledger's step, whether it refuses or not
-pub record Stepped (e : Endpoint) (store : List ℕ) (c : Call) (o : Outcome) : Type 0 where
+pub record Stepped (e : Endpoint) (store : List ℕ) (c : Call) (o : Result) : Type 0 where
   pub answers : o .answer ≡ step liveMax (ledgerOf e store) c .answer
   pub leaves : o .buffers ≡ step liveMax (ledgerOf e store) c .buffers
   pub next : ledgerOf (o .endpoint) (o .store) ≡ step liveMax (ledgerOf e store) c .next
   pub sound : malformed (o .endpoint) ≡ false
 
-pub steps : (e : Endpoint) (store : List ℕ) (c : Call) (o : Outcome) → malformed e ≡ false → Promise e store c o
+pub steps : (e : Endpoint) (store : List ℕ) (c : Call) (o : Result) → malformed e ≡ false → Promise e store c o
     → Stepped e store c o
 unfolding step
 steps e store c o fine promised =
@@ -61,45 +56,48 @@ steps e store c o fine promised =
         ledger-same p q = rw (p, q)
 
 -- a list of outcomes that is the ledger's
-pub record Refines (given : ℕ) (past : List Entry) (e : Endpoint) (store : List ℕ) : Type 0 where
-  pub outcomes : past ≡ run liveMax (start given) (callsIn past) .past
-  pub ledger : ledgerOf e store ≡ run liveMax (start given) (callsIn past) .ledger
+pub record Refines (given : ℕ) (calls : List Call) (outcomes : List Outcome) (e : Endpoint) (store : List ℕ) : Type 0 where
+  pub answered : outcomes ≡ outcomesOf liveMax (open-for given .next) calls
+  pub ledger : ledgerOf e store ≡ ledgerAfter liveMax (open-for given .next) calls
   pub sound : malformed e ≡ false
 
 -- one call more
-more : {given : ℕ} {past : List Entry} {e : Endpoint} {store : List ℕ} (c : Call) (o : Outcome) → Refines given past e store
-    → Promise e store c o
-    → Refines given (record { call = c; answer = o .answer; buffers = o .buffers } ∷ past) (o .endpoint) (o .store)
-unfolding callsIn
-more {given} {past} {e} {store} c o known promised =
-    let s = run liveMax (start given) (callsIn past) in
-    let stepped = steps e store c o (known .sound) promised in
-    let last = run-then liveMax (start given) (callsIn past) c in
+more : {given : ℕ} {calls : List Call} {outcomes : List Outcome} {e : Endpoint} {store : List ℕ} (c : Call) (r : Result)
+    → Refines given calls outcomes e store
+    → Promise e store c r
+    → Refines given (calls ++ (c ∷ [])) (outcomes ++ (outcomeFrom r ∷ [])) (r .endpoint) (r .store)
+unfolding outcomesOf ledgerAfter
+more {given} {calls} {outcomes} {e} {store} c r known promised =
+    let l = open-for given .next in
+    let stepped = steps e store c r (known .sound) promised in
     record {
-      outcomes = entry (stepped .answers ∙ ap (λ (l : Ledger). step liveMax l c .answer) (known .ledger))
-          (stepped .leaves ∙ ap (λ (l : Ledger). step liveMax l c .buffers) (known .ledger)) (known .outcomes)
-          ∙ ap (λ (r : Run). r .past) (sym last);
-      ledger = stepped .next ∙ ap (λ (l : Ledger). step liveMax l c .next) (known .ledger) ∙ ap (λ (r : Run). r .ledger) (sym last);
+      answered = last (stepped .answers ∙ ap (λ (l : Ledger). step liveMax l c .answer) (known .ledger))
+          (stepped .leaves ∙ ap (λ (l : Ledger). step liveMax l c .buffers) (known .ledger)) (known .answered)
+          ∙ sym (outcomes-append liveMax l calls (c ∷ []));
+      ledger = stepped .next ∙ ap (λ (l : Ledger). step liveMax l c .next) (known .ledger)
+          ∙ sym (ledger-append liveMax l calls (c ∷ []));
       sound = stepped .sound;
     }
   where
-    entry : {a a' : Answer} {b b' : List (List ℕ)} {h h' : List Entry} → a ≡ a' → b ≡ b' → h ≡ h'
-        → _≡_ {A = List Entry} (record { call = c; answer = a; buffers = b } ∷ h) (record { call = c; answer = a'; buffers = b' } ∷ h')
-    entry p q r = rw (p, q, r)
+    last : {a a' : Answer} {b b' : List (List ℕ)} {os os' : List Outcome} → a ≡ a' → b ≡ b' → os ≡ os'
+        → _≡_ {A = List Outcome} (os ++ (record { answer = a; buffers = b } ∷ [])) (os' ++ (record { answer = a'; buffers = b' } ∷ []))
+    last p q s = rw (p, q, s)
 
 -- every chain
-pub refines : {given : ℕ} {first : Opened} {past : List Entry} {e : Endpoint} {store : List ℕ} → Chain given first past e store
-    → Refines given past e store
-unfolding callsIn run
-refines (opens store opened) = record { outcomes = refl; ledger = opened .next store; sound = opened .sound }
-refines (submits chain r fields bytes wanted clock exit promised) = more _ _ (refines chain) promised
-refines (receives chain r bytes reply buffer clock exit replyExit bufferExit promised) = more _ _ (refines chain) promised
-refines (polls chain r output clock exit outputExit promised) = more _ _ (refines chain) promised
+pub refines : {given : ℕ} {first : Opened} {calls : List Call} {outcomes : List Outcome} {e : Endpoint} {store : List ℕ}
+    → Chain given first calls outcomes e store → Refines given calls outcomes e store
+unfolding outcomesOf ledgerAfter
+refines (opens store opened) = record { answered = refl; ledger = opened .next store; sound = opened .sound }
+refines (goes-on chain c r promised) = more c r (refines chain) promised
+
+-- what has happened is what a run of the ledger shows
+pub past-of : {given : ℕ} {calls : List Call} {outcomes : List Outcome} {e : Endpoint} {store : List ℕ}
+    → Refines given calls outcomes e store → run liveMax (start given) calls .past ≡ pastOf calls outcomes
+past-of {given} {calls} known =
+    ap (λ (s : Run). s .past) (run-agrees liveMax given calls) ∙ ap (pastOf calls) (sym (known .answered))
 
 -- and open's own answer
-pub opened-as : {given : ℕ} {first : Opened} {past : List Entry} {e : Endpoint} {store : List ℕ} → Chain given first past e store
-    → openAnswerOf (first .answer) ≡ open-for given .answer
+pub opened-as : {given : ℕ} {first : Opened} {calls : List Call} {outcomes : List Outcome} {e : Endpoint} {store : List ℕ}
+    → Chain given first calls outcomes e store → openAnswerOf (first .answer) ≡ open-for given .answer
 opened-as (opens store opened) = opened .answers
-opened-as (submits chain r fields bytes wanted clock exit promised) = opened-as chain
-opened-as (receives chain r bytes reply buffer clock exit replyExit bufferExit promised) = opened-as chain
-opened-as (polls chain r output clock exit outputExit promised) = opened-as chain
+opened-as (goes-on chain c r promised) = opened-as chain

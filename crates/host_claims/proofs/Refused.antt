@@ -14,10 +14,10 @@ use Rattle.endpoint.specs.Malformed.{malformed}
 use Rattle.endpoint.specs.declared.Endpoint.{Endpoint}
 use Rattle.refinement.specs.Refusals.{refusalOf}
 use Rattle.refinement.proofs.Sound.{same-refusal}
-use Rattle.host_answers.specs.Promises.{Outcome, Refuses, Promise}
+use Rattle.host_answers.specs.Promises.{Result, Refuses, Promise}
 use Rattle.host_claims.proofs.Refining.{steps}
 
-module _ (e : Endpoint) (store : List ℕ) (c : Call) (o : Outcome) (promised : Promise e store c o) where
+module _ (e : Endpoint) (store : List ℕ) (c : Call) (o : Result) (promised : Promise e store c o) where
   -- where the table refuses
   pub refused-where : (n : ℕ) → refusalOf e store c ≡ some n → Refuses n e store c o
   refused-where n table = rw table at promised

@@ -8,7 +8,7 @@ ghost use Rattle.ledger.specs.Polling as ledger;
 ghost use Rattle.ledger.specs.Polling.{step4, polledAs};
 ghost use Rattle.endpoint.specs.Endpoint.{storeLength, ledgerOf};
 ghost use Rattle.host_answers.specs.Promises as promise;
-ghost use Rattle.host_answers.specs.Promises.{pollOutcome};
+ghost use Rattle.host_answers.specs.Promises.{pollResult};
 ghost use Rattle.host_answers.specs.Code.{Sound, Ready, Does};
 ghost use Rattle.decisions_poll.specs.Steps.{stepOf};
 ghost use Rattle.decisions_poll.specs.declared.Step.the-variants.{End};
@@ -49,7 +49,7 @@ pub fn poll_in(e: Endpoint, store: &mut [u8], output: &mut [u8], clock: u64) -> 
 fn accept(e: Endpoint, store: &mut [u8], output: &mut [u8], clock: u64) -> Polled
     requires { ⌜ Ready e clock (now store) × (total maxLen ≤ length (now output)) ⌝ }
     ensures { λ r. ⌜ Does (ledger.poll (ledgerOf e (now (store .entry))) (now (output .entry)) clock)
-        (pollOutcome r (now (store .exit)) (now (output .exit))) ⌝ }
+        (pollResult r (now (store .exit)) (now (output .exit))) ⌝ }
 {
     let live = e.live;
     let step = next_step(live, clock);
@@ -74,7 +74,7 @@ fn end(e: Endpoint, store: &mut [u8], row: usize, cause: Cause, clock: u64) -> P
     requires { ⌜ Ready e clock (now store) × (row < e .live .count) ⌝ }
     ensures { λ r. ⌜ ((output : List ℕ) → Does (polledAs (ledgerOf e (now (store .entry)))
         (stepOf (End row cause) (ledgerOf e (now (store .entry))) clock) output clock)
-        (pollOutcome r (now (store .exit)) output)) ⌝ }
+        (pollResult r (now (store .exit)) output)) ⌝ }
 {
     let rows = e.live;
     let q = rows.rows[row];
@@ -91,7 +91,7 @@ fn end(e: Endpoint, store: &mut [u8], row: usize, cause: Cause, clock: u64) -> P
 fn quiet(e: Endpoint, clock: u64) -> Polled
     requires { ⌜ Sound e clock ⌝ }
     ensures { λ r. ⌜ ((store output : List ℕ) → Does (polledAs (ledgerOf e store) (step4 (ledgerOf e store) clock) output clock)
-        (pollOutcome r store output)) ⌝ }
+        (pollResult r store output)) ⌝ }
 {
     let live = e.live;
     let seq = e.seq;

@@ -33,7 +33,7 @@ use Rattle.live_changes.specs.declared.Change.the-variants as change
 use Rattle.frames.specs.Promises.{Put}
 use Rattle.decisions_verdict.specs.Verdicts.{bytesFor, actOf, replyTo, Judges}
 use Rattle.decisions_verdict.specs.declared.Verdict.{Verdict}
-use Rattle.host_answers.specs.Promises.{receiveOutcome}
+use Rattle.host_answers.specs.Promises.{receiveResult}
 use Rattle.host_answers.specs.Code.{Does, replyFor, DecidesIn}
 use Rattle.host_answers.specs.declared.Received.{Received}
 use Rattle.host_answers.proofs.Held.{placed-none}
@@ -78,11 +78,11 @@ Acts e d v replied clock r middle exit =
     (entry new words payload reply buffer : List ℕ) → DecidesIn d (e .held) new entry middle → length words ≡ replied
     → Does (receivedAs (ledgerOf e entry) (line.receive (take (e .held) entry) new)
     (actOf v words payload (liveOf (e .live) entry)) reply buffer clock)
-    (receiveOutcome r exit (placed 0 words reply) (placed 0 (bytesFor (v .word) payload) buffer))
+    (receiveResult r exit (placed 0 words reply) (placed 0 (bytesFor (v .word) payload) buffer))
 
 -- the buffers of an outcome by other names
 renamed : (done : Done) (r : Received) (exit left given : List ℕ) {x y : List ℕ} → x ≡ left → y ≡ given
-    → Does done (receiveOutcome r exit x y) → Does done (receiveOutcome r exit left given)
+    → Does done (receiveResult r exit x y) → Does done (receiveResult r exit left given)
 renamed done r exit left given p q does = rw (← p, ← q) does
 
 -- the payload that was decided
@@ -95,7 +95,7 @@ module _ (e : Endpoint) (d : Decision) (v : Verdict) (clock replied : ℕ) (r : 
   same-act : (words left given : List ℕ) → act (ledgerOf e entry) clock (answerOf (d .answer)) (decidedPart d middle new)
       ≡ actOf v words (decidedPart d middle new) (liveOf (e .live) entry)
       → Put replied words reply left → placed 0 (bytesFor (v .word) (decidedPart d middle new)) buffer ≡ given
-      → Does (ledger.receive (ledgerOf e entry) new reply buffer clock) (receiveOutcome r exit left given)
+      → Does (ledger.receive (ledgerOf e entry) new reply buffer clock) (receiveResult r exit left given)
   unfolding ledger.receive
   same-act words left given same put gives =
       let received = line.receive (take (e .held) entry) new in
@@ -117,7 +117,7 @@ module _ (e : Endpoint) (d : Decision) (v : Verdict) (clock replied : ℕ) (r : 
 
   -- *more*
   pub on-more : replied ≡ 0 → d .answer ≡ More → NoMore v e
-      → Does (ledger.receive (ledgerOf e entry) new reply buffer clock) (receiveOutcome r exit reply buffer)
+      → Does (ledger.receive (ledgerOf e entry) new reply buffer clock) (receiveResult r exit reply buffer)
   on-more no-reply more h =
       same-act [] reply buffer (rw (more, h .word, h .change, h .seen))
       (record { counts = no-reply; leaves = sym (placed-none reply) }) (untouched h)
@@ -125,7 +125,7 @@ module _ (e : Endpoint) (d : Decision) (v : Verdict) (clock replied : ℕ) (r : 
   -- an item that is no message
   pub on-plain : (i : Item) (left : List ℕ) → d .answer ≡ One i → OneOf (0 ∷ 1 ∷ 2 ∷ []) (tagOf the-type i)
       → NoMore v e → Put replied (replyFor (itemOf i)) reply left
-      → Does (ledger.receive (ledgerOf e entry) new reply buffer clock) (receiveOutcome r exit left buffer)
+      → Does (ledger.receive (ledgerOf e entry) new reply buffer clock) (receiveResult r exit left buffer)
   on-plain i left one k h put =
       same-act (replyFor (itemOf i)) left buffer (answered (One i) one ∙ plain e clock v i (decidedPart d middle new) entry h k) put
       (untouched h)
@@ -134,6 +134,6 @@ module _ (e : Endpoint) (d : Decision) (v : Verdict) (clock replied : ℕ) (r : 
   pub on-message : (t len : ℕ) (q : Seq) (left given : List ℕ) → d .answer ≡ One (Message t q len)
       → Put replied (replyTo t (q .0)) reply left → Judges v e t (q .0) (decidedPart d middle new) clock
       → given ≡ placed 0 (bytesFor (v .word) (decidedPart d middle new)) buffer
-      → Does (ledger.receive (ledgerOf e entry) new reply buffer clock) (receiveOutcome r exit left given)
+      → Does (ledger.receive (ledgerOf e entry) new reply buffer clock) (receiveResult r exit left given)
   on-message t len q left given one put judges gives =
       same-act (replyTo t (q .0)) left given (answered (One (Message t q len)) one ∙ judges .acts entry) put (sym gives)

@@ -7,7 +7,7 @@ ghost use Rattle.command.specs.Payload.{maxData};
 ghost use Rattle.ledger.specs.Receiving as ledger;
 ghost use Rattle.endpoint.specs.Endpoint.{storeLength, ledgerOf};
 ghost use Rattle.host_answers.specs.Promises as promise;
-ghost use Rattle.host_answers.specs.Promises.{receiveOutcome};
+ghost use Rattle.host_answers.specs.Promises.{receiveResult};
 ghost use Rattle.host_answers.specs.Code.{Ready, Does};
 use decisions_verdict::only;
 use endpoint::Endpoint;
@@ -58,7 +58,7 @@ fn accept(
 ) -> Received
     requires { ⌜ Ready e clock (now store) × (total 0 ≤ length (now reply)) × (maxData ≤ length (now buffer)) ⌝ }
     ensures { λ r. ⌜ Does (ledger.receive (ledgerOf e (now (store .entry))) (now (bytes .entry)) (now (reply .entry))
-        (now (buffer .entry)) clock) (receiveOutcome r (now (store .exit)) (now (reply .exit)) (now (buffer .exit))) ⌝ }
+        (now (buffer .entry)) clock) (receiveResult r (now (store .exit)) (now (reply .exit)) (now (buffer .exit))) ⌝ }
 {
     let held = e.held;
     let seen = e.seen;

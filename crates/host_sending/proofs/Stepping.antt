@@ -37,7 +37,7 @@ use Rattle.decisions_poll.specs.Steps.{stepOf, sentFrom, Reaches, Steps}
 use Rattle.decisions_poll.specs.declared.Step.{Step}
 use Rattle.decisions_poll.specs.declared.Step.the-variants as step
 use Rattle.refinement.proofs.Sound.{held-of, fits-of}
-use Rattle.host_answers.specs.Promises.{Outcome, pollOutcome}
+use Rattle.host_answers.specs.Promises.{Result, pollResult}
 use Rattle.refusals.specs.Code.{withEndpoint}
 use Rattle.host_answers.specs.Code.{Sound, Does}
 use Rattle.host_answers.specs.declared.PollAnswer.the-variants as answer
@@ -56,7 +56,7 @@ module _ (e : Endpoint) (clock : ℕ) (store : List ℕ) (ready : Sound e clock)
       → Becomes live (changed (End row cause) (liveOf (e .live) store)) store exit
       → after ≡ polledEndpoint e live (e .seq) clock
       → Does (polledAs (ledgerOf e store) (stepOf (step.End row cause) (ledgerOf e store) clock) output clock)
-      (pollOutcome (record {
+      (pollResult (record {
         answer = answer.Ended (record { id = getD (e .live .rows) row blankRow .id; cause = cause });
         endpoint = after;
       }) exit output)
@@ -77,7 +77,7 @@ module _ (e : Endpoint) (clock : ℕ) (store : List ℕ) (ready : Sound e clock)
       → Becomes live (changed (Turn row (InFlight frame)) (liveOf (e .live) store)) store exit
       → after ≡ polledEndpoint e live next clock
       → Does (polledAs (ledgerOf e store) (sentFrom (ledgerOf e store) clock (frameOf frame) (next .0) row) output clock)
-      (pollOutcome (record { answer = answer.Sent count; endpoint = after }) exit outputExit)
+      (pollResult (record { answer = answer.Sent count; endpoint = after }) exit outputExit)
   sent row frame next count live after exit output outputExit put becomes back =
       let held = held-same (e .held) store exit (held-of e (ready .sound)) (becomes .holds) in
       rw back (record {
@@ -97,7 +97,7 @@ module _ (e : Endpoint) (clock : ℕ) (store : List ℕ) (ready : Sound e clock)
       → timeOf time ≡ leftOf clock (earliest (bareOf (rowsOf (e .live)))) → time ≡ In ms
       → after ≡ polledEndpoint e (e .live) (e .seq) clock
       → Does (polledAs (ledgerOf e store) (step4 (ledgerOf e store) clock) output clock)
-      (pollOutcome (record { answer = answer.Quiet ms; endpoint = after }) store output)
+      (pollResult (record { answer = answer.Quiet ms; endpoint = after }) store output)
   quiet-in time ms after output left told back =
       let some-ms : some ms ≡ Option·map (_- clock) (earliest (liveOf (e .live) store)) = ap timeOf (sym told) ∙ rests time left in
       rw back (record {
@@ -112,7 +112,7 @@ module _ (e : Endpoint) (clock : ℕ) (store : List ℕ) (ready : Sound e clock)
       → timeOf time ≡ leftOf clock (earliest (bareOf (rowsOf (e .live)))) → time ≡ Never
       → after ≡ polledEndpoint e (e .live) (e .seq) clock
       → Does (polledAs (ledgerOf e store) (step4 (ledgerOf e store) clock) output clock)
-      (pollOutcome (record { answer = answer.NoDeadline; endpoint = after }) store output)
+      (pollResult (record { answer = answer.NoDeadline; endpoint = after }) store output)
   quiet-never time after output left told back =
       let none-left : none ≡ Option·map (_- clock) (earliest (liveOf (e .live) store)) = ap timeOf (sym told) ∙ rests time left in
       rw back (record {
@@ -124,7 +124,7 @@ module _ (e : Endpoint) (clock : ℕ) (store : List ℕ) (ready : Sound e clock)
       })
 
 -- the step that was decided is what the ledger's poll does
-pub stepped : (e : Endpoint) (clock : ℕ) (store output : List ℕ) (s told : Step) (o : Outcome) → Steps s (e .live) clock → s ≡ told
+pub stepped : (e : Endpoint) (clock : ℕ) (store output : List ℕ) (s told : Step) (o : Result) → Steps s (e .live) clock → s ≡ told
     → Does (polledAs (ledgerOf e store) (stepOf told (ledgerOf e store) clock) output clock) o
     → Does (poll (ledgerOf e store) output clock) o
 stepped e clock store output s told o steps same does =
@@ -134,7 +134,7 @@ pub reached : (s told : Step) (live : Requests) (clock : ℕ) → Steps s live c
 reached s told live clock steps same = rw same at (steps .reaches)
 
 -- the first transmission
-pub first-sent : (e : Endpoint) (clock : ℕ) (store output : List ℕ) (row : ℕ) (f : link.Frame) (next : ℕ) (o : Outcome)
+pub first-sent : (e : Endpoint) (clock : ℕ) (store output : List ℕ) (row : ℕ) (f : link.Frame) (next : ℕ) (o : Result)
     → f ≡ firstSent (e .seq .0) clock → next ≡ seqAfter (e .seq .0)
     → Does (polledAs (ledgerOf e store) (sentFrom (ledgerOf e store) clock f next row) output clock) o
     → Does (polledAs (ledgerOf e store) (stepOf (step.First row) (ledgerOf e store) clock) output clock) o

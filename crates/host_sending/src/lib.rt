@@ -9,7 +9,7 @@ ghost use Rattle.ledger.specs.Polling.{frameBytes, polledAs};
 ghost use Rattle.endpoint.specs.Endpoint.{storeLength, ledgerOf, liveOf};
 ghost use Rattle.endpoint.specs.Places.{at, Fits};
 ghost use Rattle.frames.specs.Promises.{Put};
-ghost use Rattle.host_answers.specs.Promises.{pollOutcome};
+ghost use Rattle.host_answers.specs.Promises.{pollResult};
 ghost use Rattle.host_answers.specs.Code.{Ready, Does};
 ghost use Rattle.decisions_poll.specs.Steps.{sentFrom};
 use endpoint::Endpoint;
@@ -38,7 +38,7 @@ pub fn send(
     requires { ⌜ Ready e clock (now store) × (row < e .live .count) × (total maxLen ≤ length (now output)) ⌝ }
     ensures { λ r. ⌜ Does (polledAs (ledgerOf e (now (store .entry)))
         (sentFrom (ledgerOf e (now (store .entry))) clock (frameOf frame) (next .0) row) (now (output .entry)) clock)
-        (pollOutcome r (now (store .exit)) (now (output .exit))) ⌝ }
+        (pollResult r (now (store .exit)) (now (output .exit))) ⌝ }
 {
     let rows = e.live;
     let sent = put_frame(rows, store, output, row, frame);

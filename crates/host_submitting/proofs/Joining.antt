@@ -28,7 +28,7 @@ use Rattle.live_changes.proofs.Becoming.{length-live}
 use Rattle.live_ids.proofs.FirstFree.{free-rows}
 use Rattle.refinement.specs.Refusals.{refusalOf}
 use Rattle.refinement.proofs.Sound.{few-of, held-of, fits-of}
-use Rattle.host_answers.specs.Promises.{submitOutcome}
+use Rattle.host_answers.specs.Promises.{submitResult}
 use Rattle.refusals.specs.Code.{withEndpoint}
 use Rattle.host_answers.specs.Code.{Sound, Does}
 use Rattle.host_answers.specs.declared.SubmitAnswer.the-variants as answer
@@ -69,7 +69,7 @@ module _ (e : Endpoint) (fields : Fields) (wanted : Bool) (clock : ℕ) (store b
       → next .0 ≡ idAfter (e .reserved) (id .0)
       → after ≡ handedBack id next live
       → Does (submit (ledgerOf e store) (fieldsOf fields) bytes wanted clock)
-      (submitOutcome (record { answer = answer.Submitted id; endpoint = after }) exit)
+      (submitResult (record { answer = answer.Submitted id; endpoint = after }) exit)
   joined id next live after exit found becomes later back =
       let same = found-id id found in
       let held = held-same (e .held) store exit (held-of e (ready .sound)) (becomes .holds) in

@@ -8,7 +8,7 @@ ghost use Rattle.ledger.specs.Parts.{liveMax};
 ghost use Rattle.ledger.specs.Submitting as ledger;
 ghost use Rattle.endpoint.specs.Endpoint.{storeLength, ledgerOf};
 ghost use Rattle.host_answers.specs.Promises as promise;
-ghost use Rattle.host_answers.specs.Promises.{submitOutcome};
+ghost use Rattle.host_answers.specs.Promises.{submitResult};
 ghost use Rattle.host_answers.specs.Code.{Ready, Does};
 use command::Fields;
 use command::RequestId;
@@ -57,7 +57,7 @@ fn accept(
 ) -> Submitted
     requires { ⌜ Ready e clock (now store) × (length (now «data») ≤ maxData) × (e .live .count < liveMax) ⌝ }
     ensures { λ r. ⌜ Does (ledger.submit (ledgerOf e (now (store .entry))) (fieldsOf fields) (now («data» .entry)) wanted clock)
-        (submitOutcome r (now (store .exit))) ⌝ }
+        (submitResult r (now (store .exit))) ⌝ }
 {
     let rows = e.live;
     let from = e.next;

@@ -56,7 +56,8 @@ isLate clock queued = false
 isLate clock (inFlight f) = ltb clock (f .sent)
 isLate clock (waiting since) = ltb clock since
 
--- "Malformed means one of", in its order, where at most `limit` requests may be live
+-- "Malformed means one of", in its order, where at most `limit` requests may be live. An endpoint has a rule of its own
+-- (`endpoint/specs/Malformed.antt`): the two agree by the laws `ledger-sound` and `endpoint-sound` (`refinement/proofs/Sound.antt`)
 unfoldable pub malformed : (limit : ℕ) → Ledger → Bool
 malformed limit l =
     ltb reservedMax (l .reserved)
@@ -96,10 +97,12 @@ ownLines limit l (receive bytes reply buffer clock) =
     line 6 (ltb (length reply) (total 0) || ltb (length buffer) maxData) ∷ []
 ownLines limit l (poll output clock) = line 6 (ltb (length output) (total maxLen)) ∷ []
 
--- before them "endpoint malformed" and "clock below the last accepted reading"
+-- before them "endpoint malformed" and "clock below the last accepted reading". The lines of an endpoint are `lines` of
+-- `refinement/specs/Refusals.antt`
 abbrev pub lines : (limit : ℕ) → Ledger → Call → List Line
 lines limit l c = line 1 (malformed limit l) ∷ line 2 (ltb (readingOf c) (l .clock)) ∷ ownLines limit l c
 
--- the refusal of a call, if any
+-- the refusal of a call, if any. That of an endpoint, `refusalOf` (`refinement/specs/Refusals.antt`), is the same for one that is not
+-- malformed: law `same-refusal` (`refinement/proofs/Sound.antt`)
 abbrev pub refusal : (limit : ℕ) → Ledger → Call → Option ℕ
 refusal limit l c = firstOf (lines limit l c)

@@ -34,13 +34,47 @@ answersTo l c (some number) = record { answer = refused number; buffers = lentBy
 unfoldable pub step : (limit : ℕ) → Ledger → Call → Done
 step limit l c = answersTo l c (refusal limit l c)
 
--- a call with its outcome: the answer and the lent buffers afterwards
+-- what a caller sees of a call, its outcome: the answer, and "the whole contents of every lent buffer afterwards"
+pub record Outcome : Type 0 where
+  pub answer : Answer
+  pub buffers : List (List ℕ)
+
+abbrev pub outcomeOf : Done → Outcome
+outcomeOf d = record { answer = d .answer; buffers = d .buffers }
+
+-- what the ledger answers to a list of calls, in their order, and the ledger afterwards
+unfoldable pub outcomesOf : (limit : ℕ) → Ledger → List Call → List Outcome
+outcomesOf limit l [] = []
+outcomesOf limit l (c ∷ cs) = outcomeOf (step limit l c) ∷ outcomesOf limit (step limit l c .next) cs
+
+unfoldable pub ledgerAfter : (limit : ℕ) → Ledger → List Call → Ledger
+ledgerAfter limit l [] = l
+ledgerAfter limit l (c ∷ cs) = ledgerAfter limit (step limit l c .next) cs
+
+-- a call with its outcome
 pub record Entry : Type 0 where
   pub call : Call
   pub answer : Answer
   pub buffers : List (List ℕ)
 
--- a list of calls as far as it was run: what has happened, newest first, and the ledger
+abbrev pub entry : Call → Outcome → Entry
+entry c o = record { call = c; answer = o .answer; buffers = o .buffers }
+
+-- calls and their outcomes as what has happened, newest first: behind what had happened before them, and from the beginning
+unfoldable pub pastFrom : List Entry → List Call → List Outcome → List Entry
+pastFrom past [] os = past
+pastFrom past (c ∷ cs) [] = past
+pastFrom past (c ∷ cs) (o ∷ os) = pastFrom (entry c o ∷ past) cs os
+
+abbrev pub pastOf : List Call → List Outcome → List Entry
+pastOf cs os = pastFrom [] cs os
+
+-- the R that a list runs with: "what open was given, or .. 0 where open refused"
+abbrev pub reservedFor : (given : ℕ) → ℕ
+reservedFor given = open-for given .next .reserved
+
+-- a list of calls as far as it was run: what has happened, newest first, and the ledger. It is `pastOf` of the calls and of what the
+-- ledger answers to them, beside `ledgerAfter` (law `run-agrees`, `claims/proofs/Runs.antt`): the form in which theorems go along a list
 pub record Run : Type 0 where
   pub past : List Entry
   pub ledger : Ledger
@@ -48,10 +82,6 @@ pub record Run : Type 0 where
 -- the list starts from what open hands back, "also when it refuses"
 abbrev pub start : (given : ℕ) → Run
 start given = record { past = []; ledger = open-for given .next }
-
--- the R that the list runs with: "what open was given, or .. 0 where open refused"
-abbrev pub reservedFor : (given : ℕ) → ℕ
-reservedFor given = open-for given .next .reserved
 
 -- one call more
 abbrev pub then : (limit : ℕ) → Run → Call → Run

@@ -1,4 +1,3 @@
-pub mod Clauses
 pub mod Rows
 pub mod Sound
 pub mod Times

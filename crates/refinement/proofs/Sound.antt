@@ -9,12 +9,13 @@ use native.Mathlib.Omega.{arith}
 use lib.ListN.{length, take, length-take}
 use borrow.Author.Tests.{le-ltb}
 use Rattle.line.specs.Receiving.{heldMax}
-use Rattle.ledger.specs.Parts.{reservedMax, liveMax, Ledger}
+use Rattle.ledger.specs.Parts.{reservedMax, liveMax}
 use Rattle.ledger.specs.Calls.{Call}
 use Rattle.ledger.specs.Refusals as ledger
 use Rattle.ledger.specs.Refusals.{isOutside, flights, wronglyOften, waitsForNothing, isLate, refusal}
 use Rattle.ledger.specs.Runs.{accepts, answersTo, step}
 use Rattle.claims.proofs.Fine.{Fine, fine-step, not-malformed}
+use Rattle.claims.proofs.SoundFine.{clauses, fine-of}
 use Rattle.claims.proofs.Laws.{three-are-few}
 use Rattle.claims.proofs.Views.{view}
 use Rattle.endpoint.specs.Endpoint.{rowsOf, liveOf, ledgerOf}
@@ -24,13 +25,7 @@ use Rattle.endpoint.specs.declared.Endpoint.{Endpoint}
 use Rattle.endpoint.proofs.Order.{facts, from-facts}
 use Rattle.endpoint.proofs.Listed.{length-requests}
 use Rattle.refinement.specs.Refusals.{refusalOf}
-use Rattle.refinement.proofs.Clauses as clauses
-use Rattle.refinement.proofs.Clauses.{clauses}
 use Rattle.refinement.proofs.Rows.{same-some, same-equal, same-flights, short-data}
-
--- a ledger that is not malformed is fine
-pub fine-of : (limit : ℕ) (l : Ledger) → ledger.malformed limit l ≡ false → Fine limit l
-fine-of = clauses.fine-of
 
 -- where the endpoint is not malformed, neither is its ledger, whatever the store holds
 pub ledger-sound : (e : Endpoint) (store : List ℕ) → malformed e ≡ false → ledger.malformed liveMax (ledgerOf e store) ≡ false

@@ -13,10 +13,9 @@ use Rattle.link.specs.Frames.{maxTransmissions}
 use Rattle.ledger.specs.Parts.{reservedMax, State, queued, inFlight, waiting, Request, Ledger}
 use Rattle.ledger.specs.Submitting.{lastId, isLive}
 use Rattle.ledger.specs.Refusals.{some-of, isOutside, twoEqual, flights, wronglyOften, waitsForNothing, isLate, malformed}
 use Rattle.claims.specs.Clauses.{All}
 use Rattle.claims.proofs.FreeId.{Unreserved}
-use Rattle.claims.proofs.Fine.{Steady, Sound, Distinct, Fine}
-use Rattle.endpoint.proofs.Order.{neither}
+use Rattle.claims.proofs.Fine.{Steady, Sound, Distinct, Fine, neither}
 
 -- what a ledger that is not malformed keeps to, clause by clause
 pub record Clauses (limit : ℕ) (l : Ledger) : Type 0 where
