@@ -1,0 +1,39 @@
+// A request, and its frame on the line: a submit, the poll that sends and a poll that has nothing to do.
+ghost use Rattle.command.specs.Promises.{fieldsOf};
+ghost use Rattle.client.specs.Parts.{Asks};
+use crate::Asked;
+use command::Fields;
+use endpoint::Endpoint;
+use endpoint::STORE_LENGTH;
+use host::poll;
+use host::submit;
+
+// Asks with a response wanted, sends the frame, and polls once more at the same reading.
+// Ruled out: a request ID that was issued before, and a frame that is not the request's.
+pub(crate) fn ask(
+    e: Endpoint,
+    store: &mut [u8; STORE_LENGTH],
+    fields: Fields,
+    data: &[u8],
+    output: &mut [u8],
+    clock: u64,
+) -> Asked
+    ensures { λ r. ⌜ Asks r e (now (store .entry)) (now (store .exit)) (fieldsOf fields) (now («data» .entry)) (now (output .entry))
+        (now (output .exit)) clock ⌝ }
+{
+    let submitted = submit(e, store, fields, data, true, clock);
+    let id = submitted.answer;
+    let queued = submitted.endpoint;
+    let sending = poll(queued, store, output, clock);
+    let sent = sending.answer;
+    let in_flight = sending.endpoint;
+    let resting = poll(in_flight, store, output, clock);
+    let rests = resting.answer;
+    let endpoint = resting.endpoint;
+    Asked {
+        id,
+        sent,
+        rests,
+        endpoint,
+    }
+}

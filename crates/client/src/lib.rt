@@ -1,0 +1,104 @@
+// A client of the host endpoint, over its four calls and nothing else: it opens an endpoint and asks twice with the same fields and data.
+// The first request is acknowledged, and answered in two pieces; the second is never heard of, and is given up after three transmissions.
+// Its contract says each answer, ending and buffer exactly, and that its calls are a list of which demand 3 speaks. Both are shown from
+// the contracts of the four calls alone: where one of them is weakened, this crate is not proved.
+mod asking; // a request, and its frame on the line
+mod hearing; // what arrives for the first request
+mod giving_up; // the second request, of which nothing is heard
+
+ghost use Rattle.command.specs.Promises.{fieldsOf};
+ghost use Rattle.client.specs.Exchange.{Exchanges};
+use asking::ask;
+use command::Fields;
+use endpoint::Endpoint;
+use endpoint::STORE_LENGTH;
+use giving_up::give_up;
+use hearing::hear;
+use host::open;
+use host_answers::OpenAnswer;
+use host_answers::PollAnswer;
+use host_answers::ReceiveAnswer;
+use host_answers::SubmitAnswer;
+
+// The readings that the client brings: when it asks, when it hears an answer and asks again, and when it polls for the second request.
+pub struct Readings {
+    pub asked: u64,
+    pub heard: u64,
+    pub again: u64,
+    pub last: u64,
+    pub over: u64,
+}
+
+// What a submit and two polls answered: the request ID, the frame sent, and *quiet*.
+pub struct Asked {
+    pub id: SubmitAnswer,
+    pub sent: PollAnswer,
+    pub rests: PollAnswer,
+    pub endpoint: Endpoint,
+}
+
+// What three receives answered: to the ACK, to the first piece of the response and to the second.
+pub struct Heard {
+    pub acknowledged: ReceiveAnswer,
+    pub waits: ReceiveAnswer,
+    pub answered: ReceiveAnswer,
+    pub endpoint: Endpoint,
+}
+
+// What five polls answered: the frame sent a second time, *quiet*, a third time, *quiet*, and the end.
+pub struct GivenUp {
+    pub second: PollAnswer,
+    pub rests: PollAnswer,
+    pub third: PollAnswer,
+    pub calm: PollAnswer,
+    pub ended: PollAnswer,
+    pub endpoint: Endpoint,
+}
+
+// All answers of an exchange, and the endpoint afterwards.
+pub struct Report {
+    pub opened: OpenAnswer,
+    pub first: Asked,
+    pub heard: Heard,
+    pub second: Asked,
+    pub over: GivenUp,
+}
+
+// Asks twice: the first request gets the ACK and the response, in two pieces, that are handed in; of the second nothing is heard.
+// Ruled out: an answer, an ending or a byte of a buffer that is another, and a list of calls of which demand 3 does not hold.
+pub fn exchange(
+    reserved: u64,
+    store: &mut [u8; STORE_LENGTH],
+    fields: Fields,
+    data: &[u8],
+    ack: &[u8],
+    first: &[u8],
+    second: &[u8],
+    at: Readings,
+    output: &mut [u8],
+    reply: &mut [u8],
+    buffer: &mut [u8],
+    frames: &mut [u8],
+) -> Report
+    ensures { λ r. ⌜ Exchanges r reserved (fieldsOf fields) (now («data» .entry)) (now (ack .entry)) (now (first .entry))
+        (now (second .entry)) at (now (output .entry)) (now (reply .entry)) (now (buffer .entry)) (now (frames .entry))
+        (now (store .exit)) (now (output .exit)) (now (reply .exit)) (now (buffer .exit)) (now (frames .exit)) ⌝ }
+{
+    let opened = open(reserved);
+    let answer = opened.answer;
+    let fresh = opened.endpoint;
+    let asked = ask(fresh, store, fields, data, output, at.asked);
+    let sent = asked.endpoint;
+    let heard = hear(sent, store, ack, first, second, reply, buffer, at.heard);
+    let idle = heard.endpoint;
+    let asked_again = ask(idle, store, fields, data, frames, at.heard);
+    let sent_again = asked_again.endpoint;
+    let over = give_up(sent_again, store, frames, at);
+    Report {
+        opened: answer,
+        first: asked,
+        heard,
+        second: asked_again,
+        over,
+    }
+}
