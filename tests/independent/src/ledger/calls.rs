@@ -60,6 +60,14 @@ impl Outcome {
         }
     }
 
+    /// The answer of an accepted receive.
+    pub fn received(&self) -> Option<&Received> {
+        match self {
+            Outcome::Receive { answer, .. } => answer.as_ref().ok(),
+            _ => None,
+        }
+    }
+
     pub fn ending(&self) -> Option<Ending> {
         match self {
             Outcome::Receive {

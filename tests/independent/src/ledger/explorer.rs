@@ -1,8 +1,9 @@
-//! The random explorer: very many lists of calls, and after each call the clauses of "What demand 3 compares".
+//! The random explorer: very many lists of calls, after each call the clauses of "What demand 3 compares", and at the end
+//! of each list that the bytes which its receives took give the same items when they are handed in at once.
 
 use super::calls::{Call, Outcome};
 use super::lists::List;
-use super::trace::Trace;
+use super::trace::{Clause, Trace};
 use super::{Ledger, MOST_LIVE};
 use crate::ids::RequestId;
 use crate::random::{seed, Random};
@@ -49,20 +50,11 @@ fn explore(purpose: &str, lists: u64, ids: Ids) {
             done: Vec::new(),
         };
         let ids_set = (random.up_to(9), RequestId(65_535 - random.up_to(3) as u16));
-        let mut list = List::new(random, by_the_rule);
-        for at in 0..CALLS {
-            if ids == Ids::SetNearTheLast && at == ids_set.0 {
-                run.ledger.next_id = ids_set.1;
-            }
-            if let Err(failure) = run.step(&mut list, &mut tally) {
-                panic!(
-                    "seed {seed}, list {number}, R {r}, {ids_set:?}: {failure}\n{}",
-                    run.told()
-                );
-            }
+        let set = (ids == Ids::SetNearTheLast).then_some(ids_set);
+        if let Err(failure) = run.all(&mut List::new(random, by_the_rule), set, &mut tally) {
+            panic!("seed {seed}, list {number}, R {r}, {set:?}: {failure}\n{}", run.told());
         }
         assert!(run.trace.keeps_the_clock_rule() || !by_the_rule, "list {number}");
-        tally.list(&run.trace);
     }
     tally.report(purpose, lists);
     for what in tally::LAST_IDS {
@@ -78,7 +70,20 @@ struct Run {
 }
 
 impl Run {
-    fn step(&mut self, list: &mut List, tally: &mut Tally) -> Result<(), String> {
+    /// The whole list, the next ID set at a call where that is asked for, and what is asked at its end.
+    fn all(&mut self, list: &mut List, set: Option<(usize, RequestId)>, tally: &mut Tally) -> Clause {
+        for at in 0..CALLS {
+            if let Some((_, id)) = set.filter(|(place, _)| *place == at) {
+                self.ledger.next_id = id;
+            }
+            self.step(list, tally)?;
+        }
+        let still = self.trace.cuts.at_once(&self.ledger.line.held)?;
+        tally.list(&self.trace, still);
+        Ok(())
+    }
+
+    fn step(&mut self, list: &mut List, tally: &mut Tally) -> Clause {
         let call = list.next_call(&self.ledger);
         let before = self.ledger.clone();
         let outcome = self.ledger.call(&call);

@@ -4,12 +4,16 @@ use super::answers::{Cause, Ending};
 use super::calls::{Call, Outcome};
 use crate::ids::{RequestId, Seq};
 use clock::ClockRule;
+use cuts::Cuts;
 use requests::{Request, Requests};
+use rest::Polls;
 
 mod buffers;
 mod clock;
+mod cuts;
 mod refusals;
 mod requests;
+mod rest;
 mod words;
 
 /// Holds, or says which clause fails.
@@ -34,10 +38,17 @@ pub struct Trace {
     /// SEQ of the last DATA_SEQ message.
     last_seq: Option<Seq>,
     rule: ClockRule,
+    polls: Polls,
+    pub cuts: Cuts,
     /// The longest time from acceptance to ending while the rule for the clock was kept.
     pub longest: Option<u64>,
     /// The requests for which a quiet poll came at the bound or later while the rule for the clock was kept.
     pub overdue: usize,
+    /// The requests for which one poll more than requests can be live came in a row at the bound or later while the rule
+    /// for the clock was kept.
+    pub polled_out: usize,
+    /// How often as many polls in a row as requests can be live were busy at one reading.
+    pub busy_rows: usize,
 }
 
 impl Trace {
@@ -48,8 +59,12 @@ impl Trace {
             requests: Requests::default(),
             last_seq: None,
             rule: ClockRule::default(),
+            polls: Polls::default(),
+            cuts: Cuts::default(),
             longest: None,
             overdue: 0,
+            polled_out: 0,
+            busy_rows: 0,
         }
     }
 
@@ -78,10 +93,8 @@ impl Trace {
         if let Outcome::Submit(Ok(id)) = outcome {
             self.requests.accept(*id, call);
         }
-        if let Outcome::Receive {
-            answer: Ok(received), ..
-        } = outcome
-        {
+        if let (Call::Receive { new, .. }, Some(received)) = (call, outcome.received()) {
+            self.cuts.record(new, received)?;
             self.word(received)?;
         }
         if let Some(frame) = outcome.frame() {
@@ -90,6 +103,7 @@ impl Trace {
         if let Some(ending) = outcome.ending() {
             self.ended(ending, call.clock(), outcome)?;
         }
+        self.comes_to_rest(call, outcome)?;
         if let Some(time) = outcome.quiet() {
             self.quiet_time(time)?;
             self.none_forgotten(call.clock())?;
@@ -100,11 +114,9 @@ impl Trace {
     /// An ending, which must be one that this call can bring.
     fn ended(&mut self, ending: Ending, reading: u64, outcome: &Outcome) -> Clause {
         let request = self.requests.ended(ending)?;
-        let possible = match outcome {
-            Outcome::Receive {
-                answer: Ok(received), ..
-            } => words::ends(received, ending.cause, request),
-            _ => matches!(ending.cause, Cause::NoResponse | Cause::NoAcknowledgement),
+        let possible = match outcome.received() {
+            Some(received) => words::ends(received, ending.cause, request),
+            None => matches!(ending.cause, Cause::NoResponse | Cause::NoAcknowledgement),
         };
         clause(possible, || format!("{ending:?} by this call, of {request:?}"))?;
         if self.rule.kept {
@@ -148,19 +160,21 @@ impl Trace {
 
     /// Under the rule for the clock: a request has ended once a poll at its bound or later answers quiet.
     fn none_forgotten(&mut self, reading: u64) -> Clause {
-        if !self.rule.kept {
-            return Ok(());
-        }
-        let reading = u128::from(reading);
-        let forgotten = self.requests.live().find(|request| self.bound(request) <= reading);
-        clause(forgotten.is_none(), || format!("quiet at {reading}: {forgotten:?}"))?;
-        let overdue = self
-            .requests
-            .all
-            .iter()
-            .filter(|request| self.bound(request) <= reading);
-        self.overdue = self.overdue.max(overdue.count());
+        let old = self.none_live(reading, "quiet at")?;
+        self.overdue = self.overdue.max(old);
         Ok(())
+    }
+
+    /// Under the rule for the clock: none is live whose bound is this reading or before it. Answers how many such
+    /// requests there were; without the rule, none.
+    fn none_live(&self, reading: u64, when: &str) -> Result<usize, String> {
+        if !self.rule.kept {
+            return Ok(0);
+        }
+        let is_old = |request: &&Request| self.bound(request) <= u128::from(reading);
+        let found = self.requests.live().find(is_old);
+        clause(found.is_none(), || format!("{when} {reading}: {found:?}"))?;
+        Ok(self.requests.all.iter().filter(is_old).count())
     }
 
     /// The same without a quiet poll: under the rule, no accepted call finds a live request later than its bound.

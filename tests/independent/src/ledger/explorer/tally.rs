@@ -8,8 +8,16 @@ use crate::ledger::Ledger;
 use crate::message::{ACK, DATA_SEQ, NAK};
 use std::collections::BTreeMap;
 
+const THREE_BUSY: &str = "poll: three busy in a row at one reading";
+const FOUR_POLLS: &str = "rule: requests with four polls in a row at T + 12000 or later";
+const ENDED_WITH_MORE: &str = "cuts: lists that ended with more";
+const ITEM_HELD: &str = "cuts: lists with an item in the held bytes";
+
 /// All that has to be met at least once. Refusal 1 can't be: no list makes a ledger malformed.
-const WANTED: [&str; 44] = [
+const WANTED: [&str; 49] = [
+    ITEM_HELD,
+    ENDED_WITH_MORE,
+    "cuts: lists without a receive",
     "open: accepted",
     "open: refusal 3",
     "submit: accepted",
@@ -46,6 +54,7 @@ const WANTED: [&str; 44] = [
     "poll: quiet, no deadline",
     "poll: refusal 2",
     "poll: refusal 6",
+    THREE_BUSY,
     "refusals: 2 before 4",
     "refusals: 2 before 5",
     "refusals: 2 before 6",
@@ -53,6 +62,7 @@ const WANTED: [&str; 44] = [
     "rule: lists that kept it",
     "rule: lists that did not",
     "rule: requests with a quiet poll at T + 12000 or later",
+    FOUR_POLLS,
     "rule: lists with an ending exactly at T + 12000",
 ];
 
@@ -73,8 +83,12 @@ impl Tally {
         }
     }
 
+    fn times(&self, what: &str) -> u64 {
+        self.counts.get(what).copied().unwrap_or(0)
+    }
+
     pub fn met(&self, what: &str) -> bool {
-        self.counts.get(what).is_some_and(|&count| count > 0)
+        self.times(what) > 0
     }
 
     pub fn opened(&mut self, opened: Result<(), u8>) {
@@ -140,8 +154,8 @@ impl Tally {
         }
     }
 
-    /// A whole list.
-    pub fn list(&mut self, trace: &Trace) {
+    /// A whole list, and how many items its held bytes still decide.
+    pub fn list(&mut self, trace: &Trace, still: usize) {
         let kept = u64::from(trace.keeps_the_clock_rule());
         self.count("rule: lists that kept it", kept);
         self.count("rule: lists that did not", 1 - kept);
@@ -150,6 +164,24 @@ impl Tally {
         let exact = u64::from(trace.longest == Some(12_000));
         self.count("rule: lists with an ending exactly at T + 12000", exact);
         self.longest = self.longest.max(trace.longest);
+        self.count(THREE_BUSY, trace.busy_rows as u64);
+        self.count(FOUR_POLLS, trace.polled_out as u64);
+        self.count(ITEM_HELD, u64::from(still > 0));
+        match trace.cuts.last {
+            None => self.count("cuts: lists without a receive", 1),
+            Some(Item::More) => self.count(ENDED_WITH_MORE, 1),
+            Some(_) => {}
+        }
+    }
+
+    /// What the line of a build's statement says beside the lists.
+    fn told(&self) -> String {
+        let [busy, polled, more, held] =
+            [THREE_BUSY, FOUR_POLLS, ENDED_WITH_MORE, ITEM_HELD].map(|what| self.times(what));
+        format!(
+            "{busy} times three busy polls in a row, {polled} requests with four polls in a row at T + 12000 or later, \
+             {more} lists ended with more, {held} with an item in the held bytes"
+        )
     }
 
     /// Prints the counts in one piece, and asks that each of them was met.
@@ -158,7 +190,8 @@ impl Tally {
         let counts = counts.collect::<Vec<_>>().join("\n");
         let longest = self.longest.expect("a request has ended under the rule");
         println!(
-            "compared: {purpose}: {lists} lists keep every clause\n{counts}\n    rule: longest time from acceptance to ending, in ms: {longest}"
+            "compared: {purpose}: {lists} lists keep every clause: {}\n{counts}\n    rule: longest time from acceptance to ending, in ms: {longest}",
+            self.told()
         );
         for what in WANTED {
             assert!(self.met(what), "never met: {what}");

@@ -5,6 +5,9 @@ use crate::command::{Command, Fields};
 use crate::ledger::answers::{Incoming, Item, Polled, Received, Word};
 use crate::message::{Message, ACK, DATA_NSQ, DATA_SEQ};
 
+mod cuts;
+mod rest;
+
 type Step = (Call, Outcome);
 
 const FIELDS: Fields = Fields {
@@ -104,14 +107,19 @@ fn quiet(time: Option<u64>, clock: u64) -> Step {
     poll(Ok(Polled::Quiet(time)), &[], clock)
 }
 
-/// The list with R = 38: what the last call's clauses say, those before it being fulfilled.
-fn last(steps: &[Step]) -> Clause {
+/// The list with R = 38, every clause being fulfilled.
+fn recorded(steps: &[Step]) -> Trace {
     let mut trace = Trace::new(38, 3);
-    let (last, before) = steps.split_last().expect("a list");
-    for (call, outcome) in before {
-        trace.record(call, outcome).expect("only the last call is wrong");
+    for (call, outcome) in steps {
+        trace.record(call, outcome).expect("a right call");
     }
-    trace.record(&last.0, &last.1)
+    trace
+}
+
+/// What the last call's clauses say, those before it being fulfilled.
+fn last(steps: &[Step]) -> Clause {
+    let (last, before) = steps.split_last().expect("a list");
+    recorded(before).record(&last.0, &last.1)
 }
 
 fn found(words: &str, steps: &[Step]) {
