@@ -3,36 +3,21 @@
 //! A definition or a proof is `` `CRATE/proofs/File.antt`: `name`, `name` ``, entries parted by `; `. A promise is a function,
 //! `` `crate::module::function` ``, or the same form as a proof. An edit is `` `CRATE/label` ``, or a test's file, `` `tests/..` ``.
 
+use crate::functions::Place;
 use crate::releases::spans;
-use crate::tree;
+use crate::{tables, tree};
 
 const HEADER: [&str; 5] = ["Rule", "Definition", "Promise", "Proof", "Edit"];
 
 /// Checks every row of every table with that header, and answers how many there are.
 pub fn check(document: &str, tried: &[String]) -> Result<usize, String> {
-    let mut rows = 0;
-    let mut inside = false;
-    for line in document.lines() {
-        let cells = cells_of(line);
-        if cells == HEADER {
-            inside = true;
-        } else if cells.is_empty() {
-            inside = false;
-        } else if inside && !cells.iter().all(|c| c.chars().all(|x| x == '-')) {
-            row(&cells, tried).map_err(|why| format!("docs/ASSURANCE.md, row {}: {why}", cells[0]))?;
-            rows += 1;
-        }
+    let rows = tables::rows(document, &HEADER);
+    for cells in &rows {
+        row(cells, tried).map_err(|why| format!("docs/ASSURANCE.md, row {}: {why}", cells[0]))?;
     }
-    match rows {
+    match rows.len() {
         0 => Err("docs/ASSURANCE.md has no row with the five columns".to_string()),
         n => Ok(n),
-    }
-}
-
-fn cells_of(line: &str) -> Vec<&str> {
-    match line.trim().strip_prefix('|').and_then(|l| l.strip_suffix('|')) {
-        Some(inner) => inner.split('|').map(str::trim).collect(),
-        None => Vec::new(),
     }
 }
 
@@ -81,10 +66,7 @@ fn names_what_is_there(entry: &str) -> Result<(), String> {
 
 /// `crate::function`, `crate::module::function`, `crate::module::Type::function`.
 fn is_function(path: &str) -> Result<(), String> {
-    let parts: Vec<&str> = path.split("::").collect();
-    let function = parts[parts.len() - 1];
-    let files = [format!("crates/{}/src/{}.rt", parts[0], parts[1]), format!("crates/{}/src/lib.rt", parts[0])];
-    let found = files.iter().filter_map(|f| tree::text(f).ok()).any(|text| tree::has_word(&text, function) && text.contains(&format!("fn {function}")));
+    let found = Place::of(path).is_some_and(|p| tree::text(&p.file).is_ok_and(|code| p.is_in(&code)));
     if found {
         return Ok(());
     }
@@ -120,6 +102,7 @@ mod tests {
     fn a_name_that_is_not_there() {
         assert!(checked(&ROW.replace("`start`", "`starts`")).unwrap_err().contains("does not declare starts"));
         assert!(checked(&ROW.replace("checksum::checksum", "checksum::checksums")).unwrap_err().contains("no function"));
+        assert!(checked(&ROW.replace("`checksum::checksum`", "`checksum::checksum`, `checksum`")).unwrap_err().contains("no function checksum"));
         assert!(checked(&ROW.replace("proofs/Laws", "proofs/Lawz")).unwrap_err().contains("there is no"));
         assert!(checked(&ROW.replace("another-start", "another-end")).unwrap_err().contains("no edit"));
     }

@@ -25,13 +25,16 @@ pub const DEMANDS: [Demand; 3] = [
         theorems: &[
             (MESSAGES, &["write-then-read", "read-then-write"]),
             (LINES, &["cuts", "cuts-from"]),
-            (CLAIMS, &["receives-items"]),
+            (CLAIMS, &["receives-items", "heard-as-joined", "same-bytes-same-items"]),
         ],
     },
     Demand {
         sentence: "For every list of calls from open on, every answer, reply, ending and lent buffer is the ledger's; requests end at most \
                    once, frames go out at most three times unchanged, and under the clock rule every request ends in time.",
-        theorems: &[(CLAIMS, &["demand-3", "at-most-once", "at-most-three-equal", "nobody-forgotten"])],
+        theorems: &[(
+            CLAIMS,
+            &["demand-3", "extends", "begins", "at-most-once", "at-most-three-equal", "nobody-forgotten", "ends-while-polled"],
+        )],
     },
 ];
 

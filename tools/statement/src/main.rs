@@ -6,11 +6,15 @@
 mod assurance;
 mod comparisons;
 mod demands;
+mod functions;
 mod gate;
+mod headings;
 mod names;
 mod page;
+mod promises;
 mod record;
 mod releases;
+mod tables;
 mod tree;
 
 use std::process::ExitCode;
@@ -38,7 +42,7 @@ fn main() -> ExitCode {
     }
 }
 
-/// The release list, the assurance's table and the names in documents, held to the tree and to the edits that the gate tried.
+/// The release list, the assurance's tables and the names in documents, held to the tree and to the edits that the gate tried.
 fn documents() -> Result<String, String> {
     let tried = gate::read(&tree::text(".ci/rt-ci.log")?)?.refused();
     let releases = releases::check(&tree::text("docs/RELEASES.md")?, &tried)?;
@@ -47,8 +51,9 @@ fn documents() -> Result<String, String> {
     let known = names::tree()?;
     let names = names::check(&known)?;
     let functions = names::covers(&known, &tree::text("docs/ARCHITECTURE.md")?, &assurance)?;
+    let promised = promises::check(&assurance, &known)?;
     Ok(format!(
         "documents: {releases} faults of docs/RELEASES.md, {rows} rows of docs/ASSURANCE.md and {names} names in documents are right; \
-         {functions} public functions are named\n"
+         {functions} public functions are named, and the {promised} that users call cite their promises\n"
     ))
 }

@@ -2,7 +2,7 @@
 //! Landing notes are history and are not looked at.
 
 use crate::releases::spans;
-use crate::tree;
+use crate::{functions, headings, tree};
 
 pub const DOCUMENTS: [&str; 6] = [
     "README.md",
@@ -18,15 +18,15 @@ pub fn covers(known: &Tree, architecture: &str, assurance: &str) -> Result<usize
     let mut crates = known.crates.clone();
     crates.dedup();
     let spans_of = |text: &str| text.lines().flat_map(spans).map(str::to_string).collect::<Vec<_>>();
-    let (named, functions) = (spans_of(architecture), spans_of(assurance));
+    let (named, promised) = (spans_of(architecture), spans_of(assurance));
     if let Some(lost) = crates.iter().find(|c| !named.contains(c)) {
         return Err(format!("docs/ARCHITECTURE.md does not name the crate {lost}"));
     }
     let mut counted = 0;
     for (path, text) in &known.code {
-        for function in public_functions(text) {
+        for function in functions::public_in(text) {
             counted += 1;
-            if !functions.iter().any(|f| f.rsplit("::").next() == Some(function)) {
+            if !promised.iter().any(|f| f.rsplit("::").next() == Some(function)) {
                 return Err(format!("docs/ASSURANCE.md does not name {function}, which is public in {path}"));
             }
         }
@@ -34,21 +34,12 @@ pub fn covers(known: &Tree, architecture: &str, assurance: &str) -> Result<usize
     Ok(counted)
 }
 
-/// The names behind `pub fn` and `pub extern "C" fn`.
-fn public_functions(code: &str) -> Vec<&str> {
-    let heads = code.lines().filter_map(|l| {
-        let l = l.trim_start();
-        let l = l.strip_prefix("#[no_mangle] ").unwrap_or(l);
-        l.strip_prefix("pub fn ").or(l.strip_prefix("pub extern \"C\" fn "))
-    });
-    heads.filter_map(|l| l.split(['(', '<']).next()).collect()
-}
-
-/// What names are looked up in: the crates, and the files below the repository with the text of the code.
+/// What names are looked up in: the crates, the files below the repository, and the text of the code and of the definitions.
 pub struct Tree {
     pub crates: Vec<String>,
     pub files: Vec<String>,
     pub code: Vec<(String, String)>,
+    pub definitions: Vec<(String, String)>,
 }
 
 /// Checks every document, and answers how many names it looked up.
@@ -73,18 +64,30 @@ fn check_text(text: &str, folder: &str, known: &Tree) -> Result<usize, String> {
     }
     for link in links(text) {
         looked_up += 1;
-        let path = if folder.is_empty() { link.to_string() } else { format!("{folder}/{link}") };
-        if !tree::exists(&path) {
-            return Err(format!("a link to {link}, which is not there"));
-        }
+        leads_somewhere(link, text, folder)?;
     }
     Ok(looked_up)
 }
 
-/// The files that a text links to, `[words](path)`; addresses on the net aside.
+/// What a text links to, `[words](path)`, `[words](path#anchor)` or `[words](#anchor)`; addresses on the net aside.
 fn links(text: &str) -> Vec<&str> {
     let targets = text.split("](").skip(1).filter_map(|rest| rest.split(')').next());
-    targets.filter(|t| !t.contains("://") && !t.starts_with('#')).map(|t| t.split('#').next().unwrap_or(t)).collect()
+    targets.filter(|t| !t.contains("://")).collect()
+}
+
+/// A link's file is there, and has a heading with the link's anchor. An anchor alone is of the text itself.
+fn leads_somewhere(link: &str, text: &str, folder: &str) -> Result<(), String> {
+    let (file, anchor) = link.split_once('#').map_or((link, None), |(file, anchor)| (file, Some(anchor)));
+    let path = if folder.is_empty() { file.to_string() } else { format!("{folder}/{file}") };
+    if !file.is_empty() && !tree::exists(&path) {
+        return Err(format!("a link to {file}, which is not there"));
+    }
+    let Some(anchor) = anchor else { return Ok(()) };
+    let target = if file.is_empty() { text.to_string() } else { tree::text(&path)? };
+    if headings::anchors(&target).iter().any(|a| a == anchor) {
+        return Ok(());
+    }
+    Err(format!("a link to {link}, and no heading there has that anchor"))
 }
 
 impl Tree {
@@ -127,10 +130,15 @@ pub fn tree() -> Result<Tree, String> {
     let mut files = Vec::new();
     files_below(".", &mut files)?;
     files.sort();
-    let code: Vec<String> = files.iter().filter(|f| f.ends_with(".rt")).cloned().collect();
-    let code = code.into_iter().map(|f| tree::text(&f).map(|text| (f, text))).collect::<Result<_, _>>()?;
+    let code = texts(&files, |f| f.ends_with(".rt"))?;
+    let definitions = texts(&files, |f| f.starts_with("crates/") && f.split('/').nth(2) == Some("specs"))?;
     let crates: Vec<String> = files.iter().filter_map(|f| f.strip_prefix("crates/")?.split('/').next().map(str::to_string)).collect();
-    Ok(Tree { crates, files, code })
+    Ok(Tree { crates, files, code, definitions })
+}
+
+/// The files of a kind, each with its text.
+fn texts(files: &[String], is_wanted: impl Fn(&str) -> bool) -> Result<Vec<(String, String)>, String> {
+    files.iter().filter(|f| is_wanted(f)).map(|f| Ok((f.clone(), tree::text(f)?))).collect()
 }
 
 fn files_below(folder: &str, files: &mut Vec<String>) -> Result<(), String> {
@@ -158,6 +166,7 @@ mod tests {
             crates: vec!["one".into()],
             files: files.iter().map(|f| f.to_string()).collect(),
             code: vec![("crates/one/src/lib.rt".into(), "pub fn write(n: u8) -> u8".into())],
+            definitions: Vec::new(),
         }
     }
 
@@ -187,14 +196,25 @@ mod tests {
         assert_eq!(covers(&known(), "the crate `one`", "`one::write`: the answer"), Ok(1));
         assert!(covers(&known(), "one", "`one::write`").unwrap_err().contains("the crate one"));
         assert!(covers(&known(), "`one`", "write").unwrap_err().contains("does not name write"));
-        let code = "pub fn a(x: u8)\n    pub fn b<'a>(x: &'a u8)\nfn c()\npub(crate) fn d()\n#[no_mangle] pub extern \"C\" fn e(";
-        assert_eq!(public_functions(code), ["a", "b", "e"]);
     }
 
     #[test]
     fn links_and_spans_of_a_text() {
-        assert_eq!(links("[a](b.md), [c](d/e.md#f), [g](https://h)"), ["b.md", "d/e.md"]);
+        assert_eq!(links("[a](b.md), [c](d/e.md#f), [g](https://h), [i](#j)"), ["b.md", "d/e.md#f", "#j"]);
         assert_eq!(check_text("`one::write` and `one/wrong`", "", &known()), Ok(2));
         assert!(check_text("`one::read`", "", &known()).unwrap_err().contains("one::read"));
+    }
+
+    #[test]
+    fn links_lead_to_files_and_headings() {
+        std::env::set_current_dir(concat!(env!("CARGO_MANIFEST_DIR"), "/../..")).unwrap();
+        let linked = |link: &str, folder: &str| check_text(&format!("# One of two\n\n[words]({link})\n"), folder, &known());
+        assert_eq!(linked("docs/RELEASES.md", ""), Ok(1));
+        assert_eq!(linked("docs/RELEASES.md#known-faults-and-the-builds-that-mend-them", ""), Ok(1));
+        assert_eq!(linked("RELEASES.md#1-a-waiting-caller-is-never-woken", "docs"), Ok(1));
+        assert_eq!(linked("#one-of-two", "docs"), Ok(1));
+        assert!(linked("docs/RELEASE.md#known-faults", "").unwrap_err().contains("docs/RELEASE.md, which is not there"));
+        assert!(linked("docs/RELEASES.md#known-faults", "").unwrap_err().contains("RELEASES.md#known-faults, and no heading"));
+        assert!(linked("#two-of-two", "docs").unwrap_err().contains("#two-of-two, and no heading"));
     }
 }
