@@ -87,7 +87,7 @@ hears k bytes r reply buffer =
 
 -- what the three receives answer: to the ACK, to the first piece, and to the second, with which the response is there
 abbrev pub toAck : (seq : ℕ) → Receipt
-toAck seq = record { item = item (items.message ack seq 0); word = noWord; taken = 10; replied = 0; ending = none }
+toAck seq = record { item = item (items.message ack seq 0); word = noWord; taken = total 0; replied = 0; ending = none }
 
 abbrev pub toFirst : (first : List ℕ) → Receipt
 toFirst first = record { item = more; word = noWord; taken = length first; replied = 0; ending = none }
@@ -97,7 +97,7 @@ toSecond back id seq answer second = record {
   item = item (items.message dataSeq seq (headLength + length answer));
   word = word.Word.response (record { fields = back; rqid = id; length = length answer });
   taken = length second;
-  replied = 10;
+  replied = total 0;
   ending = some (record { id = id; cause = word.Cause.response });
 }
 
@@ -110,18 +110,18 @@ rows k =
     let frames = placed 0 other (k .frames) in
     asks k (k .asked) (firstId k)
     ∷ polls (k .output) (k .asked) (sent (length frame)) output
-    ∷ polls output (k .asked) (quiet (some 1000)) output
+    ∷ polls output (k .asked) (quiet (some resendTime)) output
     ∷ hears k (ackMessage 0) (toAck 0) (k .reply) (k .buffer)
     ∷ hears k (k .first) (toFirst (k .first)) (k .reply) (k .buffer)
     ∷ hears k (k .second) (toSecond (k .back) (firstId k) (k .seq) (k .answer) (k .second)) (placed 0 (ackMessage (k .seq)) (k .reply))
     (placed 0 (k .answer) (k .buffer))
     ∷ asks k (k .heard) (secondId k)
     ∷ polls (k .frames) (k .heard) (sent (length other)) frames
-    ∷ polls frames (k .heard) (quiet (some 1000)) frames
+    ∷ polls frames (k .heard) (quiet (some resendTime)) frames
     ∷ polls frames (k .again) (sent (length other)) frames
-    ∷ polls frames (k .again) (quiet (some 1000)) frames
+    ∷ polls frames (k .again) (quiet (some resendTime)) frames
     ∷ polls frames (k .last) (sent (length other)) frames
-    ∷ polls frames (k .last) (quiet (some 1000)) frames
+    ∷ polls frames (k .last) (quiet (some resendTime)) frames
     ∷ polls frames (k .over) (ended (record { id = secondId k; cause = noAcknowledgement })) frames
     ∷ []
 

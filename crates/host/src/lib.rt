@@ -1,7 +1,7 @@
 // The host endpoint (document 01, "The ledger"): open, submit, receive and poll, each proved to answer as the ledger does. None has a
 // `requires`: any endpoint, store, bytes, buffers and clock may be handed in. Each contract has two parts: what the call promises by
-// itself, and that it extends every list of calls from open on which ends in the endpoint and the store handed in. The list with this
-// call and its own outcome meets demand 3.
+// itself, and that it extends every list of calls from open on which ends in the endpoint and the store handed in: the list with this
+// call and its own outcome meets demand 3 (`Demand3`, `host_claims/specs/Claims.antt`).
 mod opening; // a fresh endpoint
 
 ghost use Rattle.command.specs.Promises.{fieldsOf};

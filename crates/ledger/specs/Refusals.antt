@@ -97,8 +97,8 @@ ownLines limit l (receive bytes reply buffer clock) =
     line 6 (ltb (length reply) (total 0) || ltb (length buffer) maxData) ∷ []
 ownLines limit l (poll output clock) = line 6 (ltb (length output) (total maxLen)) ∷ []
 
--- before them "endpoint malformed" and "clock below the last accepted reading". The lines of an endpoint are `lines` of
--- `refinement/specs/Refusals.antt`
+-- before them "endpoint malformed" and "clock below the last accepted reading". The lines of an endpoint (`lines`,
+-- `refinement/specs/Refusals.antt`) come to the same refusal: law `same-refusal` (`refinement/proofs/Sound.antt`)
 abbrev pub lines : (limit : ℕ) → Ledger → Call → List Line
 lines limit l c = line 1 (malformed limit l) ∷ line 2 (ltb (readingOf c) (l .clock)) ∷ ownLines limit l c
 

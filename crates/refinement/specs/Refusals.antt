@@ -11,7 +11,7 @@ use Rattle.endpoint.specs.Malformed.{malformed}
 use Rattle.endpoint.specs.declared.Endpoint.{Endpoint}
 
 -- "Refusal numbers, tested in this order": the table's lines, with "endpoint malformed" tested on the endpoint itself. Those of a ledger
--- are `lines` of `ledger/specs/Refusals.antt`
+-- (`lines`, `ledger/specs/Refusals.antt`) come to the same refusal: law `same-refusal` (`refinement/proofs/Sound.antt`)
 abbrev pub lines : Endpoint → (store : List ℕ) → Call → List Line
 lines e store c = line 1 (malformed e) ∷ line 2 (ltb (readingOf c) (e .clock)) ∷ ownLines liveMax (ledgerOf e store) c
 
