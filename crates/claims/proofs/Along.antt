@@ -14,7 +14,7 @@ use Rattle.ledger.specs.Refusals.{firstOf}
 use Rattle.ledger.specs.Runs.{openedBy, step, Entry, Run, start, then, run}
 use Rattle.claims.specs.Trace.{endings, frames, liveAfter, requests}
 use Rattle.claims.specs.Clauses.{All, Enough}
-use Rattle.claims.proofs.Cases.{by-test}
+use Rattle.ledger.proofs.Cases.{by-test}
 use Rattle.claims.proofs.Lists.{all-map, all-right}
 use Rattle.claims.proofs.Views.{Change, stays, joins, leaves, turns, rests-free, rests-busy, View, refuses, accepts, view}
 use Rattle.claims.proofs.Fine.{Sound, Fine, fresh-fine, later, turned, issued-free, fine-step}

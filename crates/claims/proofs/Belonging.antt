@@ -15,7 +15,7 @@ use Rattle.ledger.specs.Answers.{Ending}
 use Rattle.ledger.specs.Polling.{frameBytes}
 use Rattle.ledger.specs.Runs.{Entry}
 use Rattle.claims.specs.Trace.{Asked, idIn, askedAs, endingIn, frameIn, namedBy, lastOr, lastAsked, owner, isAt, endings, frames, without, liveAfter, requests}
-use Rattle.claims.proofs.Cases.{by-test}
+use Rattle.ledger.proofs.Cases.{by-test}
 use Rattle.claims.proofs.Lists.{append-nil}
 
 pub some-same : {x y : Asked} → some x ≡ some y → x ≡ y

@@ -18,7 +18,7 @@ use Rattle.ledger.specs.Refusals.{firstOf}
 use Rattle.ledger.specs.Runs.{openedBy, step, Entry, Run, start, then, run}
 use Rattle.claims.specs.Trace.{Asked, isAccepted, idIn, lastAsked, endings, liveAfter, requests}
 use Rattle.claims.specs.Clauses.{All, _∈_, here, there, Fate, is-live, has-ended, longest, Bounded, Enough}
-use Rattle.claims.proofs.Cases.{by-test}
+use Rattle.ledger.proofs.Cases.{by-test}
 use Rattle.claims.proofs.ClockTest.{leaveOf, mayBeLater, mayFollow, keepsClockRule, rule-test}
 use Rattle.claims.proofs.Lists.{all-of, all-map, all-right}
 use Rattle.claims.proofs.Views.{quietIn, Change, stays, joins, leaves, turns, rests-free, rests-busy, View, refuses, accepts, view}

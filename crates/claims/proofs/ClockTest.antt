@@ -13,7 +13,7 @@ use Rattle.ledger.specs.Calls.{readingOf}
 use Rattle.ledger.specs.Runs.{Entry}
 use Rattle.claims.specs.Trace.{isAccepted}
 use Rattle.claims.specs.ClockRule.{acceptedIn, Waited, EachFollows, ClockRule}
-use Rattle.claims.proofs.Cases.{by-test}
+use Rattle.ledger.proofs.Cases.{by-test}
 
 -- how far the next reading may be after a poll, and after any answer
 abbrev pub leaveOf : Poll → (reading later : ℕ) → Bool

@@ -16,7 +16,7 @@ use Rattle.ledger.specs.Receiving.{frameIn, flies, provided}
 use Rattle.ledger.specs.Polling.{responseTime, overdueIn, queuedIn, deadlineIn, earlier, earliest}
 use Rattle.ledger.specs.Refusals.{fliesOnce, flights}
 use Rattle.claims.specs.Clauses.{All}
-use Rattle.claims.proofs.Cases.{by-test}
+use Rattle.ledger.proofs.Cases.{by-test}
 use Rattle.claims.proofs.Lists.{all-map, all-right}
 use Rattle.claims.proofs.Views.{Turn, acknowledges, marks, starts, sends-again}
 use Rattle.claims.proofs.Fine.{Steady, Sound}

@@ -24,7 +24,7 @@ use Rattle.ledger.specs.Polling as polling
 use Rattle.ledger.specs.Polling.{responseTime, overdueIn}
 use Rattle.claims.specs.Clauses.{All}
 use Rattle.claims.specs.PlainTerms.{transmissionsIn, counts, Matched}
-use Rattle.claims.proofs.Cases.{by-test}
+use Rattle.ledger.proofs.Cases.{by-test}
 use Rattle.claims.proofs.Lists.{all-right}
 use Rattle.claims.proofs.Searches.{Looked, one-shows, look, find-oldest}
 

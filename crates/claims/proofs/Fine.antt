@@ -20,10 +20,10 @@ use Rattle.ledger.specs.Receiving.{flies}
 use Rattle.ledger.specs.Calls.{Call}
 use Rattle.ledger.specs.Refusals.{some-of, isOutside, twoEqual, fliesOnce, flights, wronglyOften, waitsForNothing, isLate, malformed}
 use Rattle.claims.specs.Trace.{idIn}
-use Rattle.claims.proofs.Cases.{by-test}
+use Rattle.ledger.proofs.Cases.{by-test}
 use Rattle.claims.specs.Clauses.{All, Enough}
 use Rattle.claims.proofs.Lists.{all-map, all-append, all-left, all-right}
-use Rattle.claims.proofs.FreeId.{Unreserved, after-unreserved, first-free, free-unreserved}
+use Rattle.ledger.proofs.FreeId.{Unreserved, after-unreserved, first-free, free-unreserved}
 use Rattle.claims.proofs.Views.{Turn, acknowledges, marks, starts, sends-again, Change, stays, joins, leaves, turns, rests-free, rests-busy, View, refuses, accepts}
 
 -- the state of a request, at a reading

@@ -16,12 +16,13 @@ use Rattle.ledger.specs.Parts.{reservedMax, Ledger}
 use Rattle.ledger.specs.Answers.{Done}
 use Rattle.ledger.specs.Receiving as receiving
 use Rattle.ledger.specs.Polling as polling
+use Rattle.ledger.specs.Numbers.{numbersOf}
 use Rattle.ledger.specs.Calls.{Call, submit, receive, poll}
 use Rattle.ledger.specs.Refusals.{firstOf, refusal}
 use Rattle.ledger.specs.Runs.{openedBy, accepts, answersTo, step, Entry, Run, start, then, run}
-use Rattle.claims.specs.Hearing.{takenIn, bytesTaken, itemsIn, itemsAnswered, lastOf, lastReceive, itemOf, HeardAs, HeardAll, HeardAlike}
+use Rattle.claims.specs.Hearing.{bytesTaken, itemsIn, itemsAnswered, lastOf, lastReceive, itemOf, HeardAs, HeardAll, HeardAlike}
 use Rattle.claims.proofs.Along.{entryOf}
-use Rattle.claims.proofs.Cases.{by-test}
+use Rattle.ledger.proofs.Cases.{by-test}
 
 -- what has been heard, with the payloads that the answers do not show
 record Hears (past : List Entry) (kept : List ℕ) : Type 0 where
@@ -31,7 +32,7 @@ record Hears (past : List Entry) (kept : List ℕ) : Type 0 where
   rests : lastReceive past ≡ more → handed kept [] ≡ record { items = []; held = kept }
 
 -- a call that takes nothing and answers no item
-calm : (e : Entry) (past : List Entry) (kept : List ℕ) → takenIn (e .answer) ≡ 0 → itemsIn (e .answer) ≡ []
+calm : (e : Entry) (past : List Entry) (kept : List ℕ) → numbersOf (e .answer) .taken ≡ 0 → itemsIn (e .answer) ≡ []
     → ((a : line.Answer) → lastOf (e .answer) a ≡ a) → Hears past kept → Hears (e ∷ past) kept
 unfolding bytesTaken itemsAnswered lastReceive
 calm e past kept no-bytes no-item same h = record {

@@ -2,7 +2,7 @@
 -- refused ones and any clocks included, and for every number of live requests that leaves IDs enough. `Faults.antt` and
 -- `UselessBuilds.antt` say for each fault and each useless build of document 01 which statement shuts it out.
 use Prim.Native.Nat.{ℕ, _+_, _≤_}
-use mathlib.Core.Bool.{false}
+use mathlib.Core.Bool.{Bool, true, false}
 use mathlib.Core.List.{List, _∷_, _++_}
 use mathlib.Core.Option.{Option, none, some}
 use mathlib.Core.Path.{_≡_, refl}
@@ -11,26 +11,34 @@ use lib.ListN.{length}
 use Rattle.message.specs.Bytes.{syn, ack, nak, dataSeq, total, maxLen}
 use Rattle.message.specs.Items.{damagedPayload, decided, scan}
 use Rattle.line.specs.Receiving.{more}
+use Rattle.command.specs.Payload.{Fields}
 use Rattle.link.specs.Frames.{Frame}
-use Rattle.ledger.specs.Parts.{liveMax, inFlight, waiting, Request, Ledger}
-use Rattle.ledger.specs.Answers.{noResponse, stray, Ending, quiet, refused, polled}
+use Rattle.ledger.specs.Parts.{liveMax, inFlight, waiting, Request, Ledger, withState}
+use Rattle.ledger.specs.Answers.{noResponse, stray, Ending, Receipt, Poll, quiet, refused, submitted, received, polled}
+use Rattle.ledger.specs.Numbers.{numbersOf, refusalAlone}
 use Rattle.ledger.specs.Submitting.{lastId, isLive, issued}
 use Rattle.ledger.specs.Receiving.{only, onData, onMessage, ackMessage}
 use Rattle.ledger.specs.Polling as polling
 use Rattle.ledger.specs.Polling.{responseTime, overdueIn}
-use Rattle.ledger.specs.Calls.{Call, readingOf, lentBy}
-use Rattle.ledger.specs.Refusals.{malformed, refusal}
-use Rattle.ledger.specs.Runs.{step, outcomesOf, Entry, start, reservedFor, run}
+use Rattle.ledger.specs.Calls.{Call, submit, receive, poll, readingOf, lentBy}
+use Rattle.ledger.specs.Refusals.{flights, malformed, refusal}
+use Rattle.ledger.specs.Runs.{step, outcomesOf, Entry, Run, start, reservedFor, run}
+use Rattle.ledger.specs.Changes.{FirstNotLive, SubmitChanges, ReceiveChanges, PollChanges}
 use Rattle.ledger.specs.Examples.{AreTrue, table}
 use Rattle.ledger.specs.FaultRuns.{faultRuns}
 use Rattle.ledger.specs.ItemRuns.{itemRuns}
 use Rattle.ledger.specs.RefusalRuns.{refusalRuns}
+use Rattle.ledger.specs.KeptRuns.{keptRuns}
+use Rattle.ledger.specs.RequestRuns.{requestRuns}
+use Rattle.ledger.proofs.Changes as changes
+use Rattle.ledger.proofs.Refused as numbers
 use Rattle.ledger.proofs.Examples as examples
 use Rattle.claims.specs.Trace.{endings, liveAfter, requests}
 use Rattle.claims.specs.ClockRule.{ClockRule}
 use Rattle.claims.specs.Resting.{restless, pollsAt, beforeQuiet, PolledAt, pollsToRest}
 use Rattle.claims.specs.Hearing.{bytesTaken, lastReceive, HeardAs, HeardAll, HeardAlike}
 use Rattle.claims.specs.Clauses.{All, Bounded, OutcomeClaims, LedgerClaims, Enough, longest}
+use Rattle.claims.specs.Throughout.{Throughout}
 use Rattle.claims.specs.PlainTerms.{counts, Matched, NothingToDo, QuietTime, Counted, Tight}
 use Rattle.claims.proofs.Fine as fine
 use Rattle.claims.proofs.Fine.{not-malformed}
@@ -43,6 +51,8 @@ use Rattle.claims.proofs.Resting as resting
 use Rattle.claims.proofs.RestingWitness.{tight}
 use Rattle.claims.proofs.WhilePolled as while-polled
 use Rattle.claims.proofs.Shown.{same-ids, same-length, all-unreserved, all-distinct, reserved-stays}
+use Rattle.claims.proofs.Issued as issued
+use Rattle.claims.proofs.Throughout as throughout
 use Rattle.claims.proofs.Refused as refused
 use Rattle.claims.proofs.Faults as faults
 use Rattle.claims.proofs.UselessBuilds as useless
@@ -76,7 +86,34 @@ issued-not-live limit enough given cs room =
     fine.issued-free limit enough (run limit (start given) cs .ledger)
     (good-run limit enough (start given) cs (start-good limit given) .fine) room
 
--- **Receive**: an ACK with another SEQ than that in flight is *stray*
+-- and it is the first such from the next request ID on: those that are passed over are live
+pub issued-is-first : (limit : ℕ) → Enough limit → (given : ℕ) (cs : List Call)
+    → (fields : Fields) (bytes : List ℕ) (wanted : Bool) (t id : ℕ)
+    → step limit (run limit (start given) cs .ledger) (submit fields bytes wanted t) .answer ≡ submitted id
+    → FirstNotLive (run limit (start given) cs .ledger) id
+issued-is-first limit enough given cs fields bytes wanted t id h =
+    issued.first-not-live limit enough (run limit (start given) cs .ledger)
+    (good-run limit enough (start given) cs (start-good limit given) .fine) fields bytes wanted t id h
+
+-- what an accepted submit changes, and that all else stays: held bytes, last SEQ, next SEQ, R and every other request
+pub submit-changes : (limit : ℕ) (l : Ledger) (fields : Fields) (bytes : List ℕ) (wanted : Bool) (t id : ℕ)
+    → step limit l (submit fields bytes wanted t) .answer ≡ submitted id
+    → SubmitChanges l fields bytes wanted t id (step limit l (submit fields bytes wanted t) .next)
+submit-changes limit l fields bytes wanted t id h = changes.submit-changes limit l fields bytes wanted t id h
+
+-- **Receive**: what an accepted one changes, and that all else stays. The last SEQ changes by a DATA_SEQ frame alone, and by every such
+pub receive-changes : (limit : ℕ) (l : Ledger) (bytes reply buffer : List ℕ) (t : ℕ) (r : Receipt)
+    → step limit l (receive bytes reply buffer t) .answer ≡ received r
+    → ReceiveChanges l bytes t r (step limit l (receive bytes reply buffer t) .next)
+receive-changes limit l bytes reply buffer t r h = changes.receive-changes limit l bytes reply buffer t r h
+
+-- an ACK with the SEQ in flight: a request that wants a response waits from the reading of its ACK
+pub waits-from-its-ack : (l : Ledger) (t : ℕ) (b a : List Request) (q : Request) (f : Frame) (payload : List ℕ)
+    → l .live ≡ b ++ (q ∷ a) → flights b ≡ 0 → q .state ≡ inFlight f → q .wanted ≡ true
+    → onMessage l t ack (f .seq) payload .live ≡ b ++ (withState (waiting t) q ∷ a)
+waits-from-its-ack l t b a q f payload among alone flying wanted = changes.ack-waits l t b a q f payload among alone flying wanted
+
+-- an ACK with another SEQ than that in flight is *stray*
 pub other-ack-is-stray : (l : Ledger) (t seq : ℕ) (payload : List ℕ)
     → All (λ q. (f : Frame) → q .state ≡ inFlight f → f .seq ≡ seq → ⊥) (l .live) → onMessage l t ack seq payload ≡ only l t stray
 other-ack-is-stray l t seq payload others = faults.other-ack-is-stray l t seq payload others
@@ -99,7 +136,12 @@ response-matches-every-field l t payload x ends = faults.response-matches-every-
 pub damaged-removes-syn : (xs : List ℕ) {d r : ℕ} → scan xs ≡ decided damagedPayload d r → r ≡ length syn
 damaged-removes-syn xs h = faults.damaged-removes-syn xs h
 
--- **Poll**: the oldest waiting request whose time is up ends first, whatever is due
+-- **Poll**: what an accepted one changes, and that all else stays. The next SEQ changes by a first transmission alone, and by every such
+pub poll-changes : (limit : ℕ) (l : Ledger) (output : List ℕ) (t : ℕ) (p : Poll)
+    → step limit l (poll output t) .answer ≡ polled p → PollChanges l t p (step limit l (poll output t) .next)
+poll-changes limit l output t p h = changes.poll-changes limit l output t p h
+
+-- the oldest waiting request whose time is up ends first, whatever is due
 pub overdue-ends-first : (l : Ledger) (t : ℕ) (b a : List Request) (q : Request) (since : ℕ) → l .live ≡ b ++ (q ∷ a)
     → q .state ≡ waiting since → since + responseTime ≤ t → All (λ x. overdueIn t (x .state) ≡ none) b
     → polling.act l t ≡ polling.ends l t noResponse b q a
@@ -206,6 +248,21 @@ ledger-claims limit enough given cs =
       sound = not-malformed limit (s .ledger) (good .fine);
     }
 
+-- what holds of the end of every list from open on holds after every call of a list; and so, being said of every call, at each
+pub after-every-call : (limit given : ℕ) (holds : Run → Type 0) → ((cs : List Call) → holds (run limit (start given) cs))
+    → (cs : List Call) → Throughout limit holds (start given) cs
+after-every-call limit given holds ends cs = throughout.after-every-call limit holds (start given) ends cs
+
+pub at-each-call : (limit : ℕ) (holds : Run → Type 0) (s : Run) (cs ds : List Call) → Throughout limit holds s (cs ++ ds)
+    → holds (run limit s cs)
+at-each-call limit holds s cs ds h = throughout.at-each-call limit holds s cs ds h
+
+-- so after every call of a list each request has ended once at most, the live IDs are distinct and unreserved, and few are live
+pub claims-after-every-call : (limit : ℕ) → Enough limit → (given : ℕ) (cs : List Call)
+    → Throughout limit (λ s. OutcomeClaims limit (reservedFor given) (s .past)) (start given) cs
+claims-after-every-call limit enough given cs =
+    after-every-call limit given (λ s. OutcomeClaims limit (reservedFor given) (s .past)) (outcome-claims limit enough given) cs
+
 -- both for the number of document 01, three
 pub three-are-few : Enough liveMax
 three-are-few = omega arith
@@ -234,7 +291,12 @@ pub refused-changes-nothing : (limit : ℕ) (l : Ledger) (c : Call) (n : ℕ) �
     → step limit l c ≡ record { answer = refused n; buffers = lentBy c; next = l }
 refused-changes-nothing limit l c n h = refused.changes-nothing limit l c n h
 
--- "Bench examples", all fourteen as one table; and tables of runs for faults, items and refusals
+-- "Each hands back its number, taken count and any other number of the answer 0"
+pub refused-numbers : (limit : ℕ) (l : Ledger) (c : Call) (n : ℕ) → refusal limit l c ≡ some n
+    → numbersOf (step limit l c .answer) ≡ refusalAlone n
+refused-numbers limit l c n h = numbers.refused-numbers limit l c n h
+
+-- "Bench examples", all fourteen as one table; and tables of runs for faults, items, refusals, what calls leave and requests
 pub bench-examples : AreTrue table
 bench-examples = examples.examples
 
@@ -249,3 +311,9 @@ item-runs = examples.item-runs
 
 pub refusal-runs : AreTrue refusalRuns
 refusal-runs = examples.refusal-runs
+
+pub kept-runs : AreTrue keptRuns
+kept-runs = examples.kept-runs
+
+pub request-runs : AreTrue requestRuns
+request-runs = examples.request-runs

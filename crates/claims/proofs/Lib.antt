@@ -1,9 +1,7 @@
-pub mod Cases
 pub mod ClockTest
 pub mod Runs
 pub mod Lists
 pub mod Searches
-pub mod FreeId
 pub mod PollCases
 pub mod Views
 pub mod Fine
@@ -20,6 +18,8 @@ pub mod Resting
 pub mod WhilePolled
 pub mod RestingWitness
 pub mod Shown
+pub mod Issued
+pub mod Throughout
 pub mod Refused
 pub mod Faults
 pub mod QuietTime

@@ -15,7 +15,7 @@ use Rattle.ledger.specs.Submitting.{isLive}
 use Rattle.ledger.specs.Polling.{frameBytes}
 use Rattle.ledger.specs.Runs.{Entry}
 use Rattle.claims.specs.Trace.{Asked, lastAsked, endings, frames, without}
-use Rattle.claims.proofs.Cases.{by-test}
+use Rattle.ledger.proofs.Cases.{by-test}
 use Rattle.claims.specs.Clauses.{All, _∈_, here, there, Alike, Few}
 use Rattle.claims.proofs.Lists.{all-right}
 use Rattle.claims.proofs.Views.{Turn, acknowledges, marks, starts, sends-again}

@@ -3,28 +3,17 @@ use Prim.Native.Nat.{ℕ}
 use mathlib.Core.Bool.{true, false, cond as if}
 use mathlib.Core.List.{List, _∷_, _++_}
 use mathlib.Core.Option.{none, some}
-use mathlib.Core.Path.{_≡_, refl}
-use native.Mathlib.Omega.{arith}
+use mathlib.Core.Path.{_≡_}
 use Rattle.link.specs.SequenceIds.{seqAfter}
 use Rattle.link.specs.Frames.{Frame, firstSent, due, mayGoAgain, sentAgain}
-use Rattle.ledger.specs.Parts.{State, queued, inFlight, waiting, Request, Ledger, Search, nobody, somebody, oldest}
+use Rattle.ledger.specs.Parts.{queued, inFlight, Request, Ledger, Search, nobody, somebody, oldest}
 use Rattle.ledger.specs.Answers.{noResponse, noAcknowledgement}
-use Rattle.ledger.specs.Receiving.{frameIn, flies}
+use Rattle.ledger.specs.Receiving.{flies}
 use Rattle.ledger.specs.Polling.{Act, overdueIn, queuedIn, orElse, ends, sends, step1, step2, step3, step4, act}
 use Rattle.claims.specs.Clauses.{All}
-use Rattle.claims.proofs.Cases.{by-test}
+use Rattle.ledger.proofs.Cases.{by-test}
+use Rattle.ledger.proofs.States.{flies-state, queued-state}
 use Rattle.claims.proofs.Searches.{Looked, none-shows, one-shows, look}
-
--- what a search showed of the state
-pub flies-state : (s : State) {f : Frame} → frameIn s ≡ some f → s ≡ inFlight f
-flies-state queued h = let z : _≡_ {A = ℕ} 0 1 = cc in absurd (omega arith)
-flies-state (inFlight g) h = cc
-flies-state (waiting since) h = let z : _≡_ {A = ℕ} 0 1 = cc in absurd (omega arith)
-
-queued-state : (s : State) {u : Unit {0}} → queuedIn s ≡ some u → s ≡ queued
-queued-state queued h = refl
-queued-state (inFlight g) h = let z : _≡_ {A = ℕ} 0 1 = cc in absurd (omega arith)
-queued-state (waiting since) h = let z : _≡_ {A = ℕ} 0 1 = cc in absurd (omega arith)
 
 pub data Acted (l : Ledger) (t : ℕ) : Act → Type 0 where
   no-response : (b a : List Request) (q : Request) {u : Unit {0}} → l .live ≡ b ++ (q ∷ a) → overdueIn t (q .state) ≡ some u

@@ -26,7 +26,7 @@ use Rattle.ledger.specs.Runs.{openedBy, answersTo, step, outcomesOf, Entry, Run
 use Rattle.claims.specs.ClockRule.{acceptedIn}
 use Rattle.claims.specs.Resting.{isBusy, isBusyPoll, busyInARow, restless, pollsAt, beforeQuiet}
 use Rattle.claims.specs.Clauses.{All, Enough}
-use Rattle.claims.proofs.Cases.{by-test}
+use Rattle.ledger.proofs.Cases.{by-test}
 use Rattle.claims.proofs.PollCases.{Acted, no-response, goes-again, gives-up, goes-first, quiet-free, quiet-busy, acted}
 use Rattle.claims.proofs.Views.{View, refuses, accepts, view}
 use Rattle.claims.proofs.Fine.{Fine, fine-calm, not-malformed}

@@ -14,7 +14,7 @@ use Rattle.ledger.specs.Parts.{reservedMax, State, queued, inFlight, waiting, R
 use Rattle.ledger.specs.Submitting.{lastId, isLive}
 use Rattle.ledger.specs.Refusals.{some-of, isOutside, twoEqual, flights, wronglyOften, waitsForNothing, isLate, malformed}
 use Rattle.claims.specs.Clauses.{All}
-use Rattle.claims.proofs.FreeId.{Unreserved}
+use Rattle.ledger.proofs.FreeId.{Unreserved}
 use Rattle.claims.proofs.Fine.{Steady, Sound, Distinct, Fine, neither}
 
 -- what a ledger that is not malformed keeps to, clause by clause

@@ -16,7 +16,7 @@ use Rattle.ledger.specs.Polling.{frameBytes}
 use Rattle.ledger.specs.Runs.{Entry}
 use Rattle.claims.specs.Trace.{Asked, idIn, askedAs, endingIn, frameIn, namedBy, lastAsked, endings, frames, without, liveAfter, requests}
 use Rattle.claims.specs.Clauses.{All, _∈_, here, there, Belongs, AllBelong, Few, Fate, is-live, has-ended}
-use Rattle.claims.proofs.Cases.{by-test}
+use Rattle.ledger.proofs.Cases.{by-test}
 use Rattle.claims.proofs.Lists.{all-map, all-append, in-left, in-right}
 use Rattle.claims.proofs.Views.{Turn, acknowledges, marks, starts, sends-again}
 use Rattle.claims.proofs.Fine.{Steady, Distinct}

@@ -9,13 +9,13 @@ use lib.ListN.{length, length-append, replicate, length-replicate}
 use Rattle.message.specs.Bytes.{total, maxLen}
 use Rattle.message.specs.Items.{Item, scan, decided}
 use Rattle.line.specs.Receiving as line
-use Rattle.line.specs.Receiving.{more, item}
+use Rattle.line.specs.Receiving.{item}
 use Rattle.line.proofs.Laws.{item-of-all}
-use Rattle.link.specs.Frames.{Frame, due}
-use Rattle.ledger.specs.Parts.{liveMax, queued, inFlight, Request, Ledger, fresh}
-use Rattle.ledger.specs.Answers.{quiet, refused, submitted, polled, Done, Ending}
+use Rattle.link.specs.Frames.{Frame}
+use Rattle.ledger.specs.Parts.{liveMax, inFlight, Request, Ledger, fresh}
+use Rattle.ledger.specs.Answers.{quiet, submitted, polled, Done, Ending}
 use Rattle.ledger.specs.Polling.{frameBytes}
-use Rattle.ledger.specs.Calls.{Call, submit, poll, readingOf}
+use Rattle.ledger.specs.Calls.{Call, poll, readingOf}
 use Rattle.ledger.specs.Refusals.{some-of, twoEqual, flights, malformed, firstOf, refusal}
 use Rattle.ledger.specs.Runs.{step, start, then, run}
 use Rattle.claims.specs.Trace.{endingIn, frames, lastAsked, liveAfter}

@@ -19,7 +19,7 @@ use Rattle.line.specs.Receiving.{heldMax, more, item}
 use Rattle.line.proofs.Laws.{receive-bounded}
 use Rattle.command.specs.Payload.{Fields, maxData, isCommand, dataIn}
 use Rattle.link.specs.SequenceIds.{seqAfter}
-use Rattle.link.specs.Frames.{Frame, acknowledgedBy, withMark, firstSent, due, mayGoAgain, sentAgain}
+use Rattle.link.specs.Frames.{Frame, withMark, firstSent, due, mayGoAgain, sentAgain}
 use Rattle.link.specs.Repeats.{Seen, isRepeat, seenAfter}
 use Rattle.ledger.specs.Parts.{State, queued, inFlight, waiting, Request, Ledger, withState, Search, nobody, somebody, oldest}
 use Rattle.ledger.specs.Answers as answer
@@ -33,11 +33,12 @@ use Rattle.ledger.specs.Calls.{Call, submit, receive, poll, readingOf, lentBy}
 use Rattle.ledger.specs.Refusals.{malformed, firstOf, refusal}
 use Rattle.ledger.specs.Runs.{step, answersTo}
 use Rattle.claims.specs.Trace.{isAccepted, idIn, endingIn, first, sentIn}
-use Rattle.claims.proofs.Cases.{by-test}
+use Rattle.ledger.proofs.Cases.{by-test}
+use Rattle.ledger.proofs.States.{flies-state, acknowledged-state}
 use Rattle.claims.specs.Clauses.{All}
 use Rattle.claims.proofs.Lists.{take-front}
 use Rattle.claims.proofs.Searches.{Looked, none-shows, one-shows, look}
-use Rattle.claims.proofs.PollCases.{flies-state, Acted, no-response, goes-again, gives-up, goes-first, quiet-free, quiet-busy, acted}
+use Rattle.claims.proofs.PollCases.{Acted, no-response, goes-again, gives-up, goes-first, quiet-free, quiet-busy, acted}
 
 -- the time of a quiet answer
 abbrev pub quietOf : Poll → Option (Option ℕ)
@@ -98,16 +99,6 @@ pub data View (limit : ℕ) (l : Ledger) (c : Call) (d : Done) : Type 0 where
   refuses : (n : ℕ) → d .answer ≡ refused n → d .buffers ≡ lentBy c → d .next ≡ l → View limit l c d
   accepts : l .clock ≤ readingOf c → isAccepted (d .answer) ≡ true → Keeps l (readingOf c) (d .next)
       → Change limit l (readingOf c) d → View limit l c d
-
--- what a search showed of the state
-acknowledged-state : (seq : ℕ) (s : State) {f : Frame} → acknowledgedIn seq s ≡ some f → s ≡ inFlight f
-acknowledged-state seq queued h = let z : _≡_ {A = ℕ} 0 1 = cc in absurd (omega arith)
-acknowledged-state seq (inFlight g) {f} h =
-    by-test (λ b. provided b g ≡ some f → inFlight g ≡ inFlight f) (acknowledgedBy g seq)
-    (λ e h. cc)
-    (λ e h. let z : _≡_ {A = ℕ} 0 1 = cc in absurd (omega arith))
-    h
-acknowledged-state seq (waiting since) h = let z : _≡_ {A = ℕ} 0 1 = cc in absurd (omega arith)
 
 -- what else an outcome says does not matter
 alike : {limit t : ℕ} {l : Ledger} {d d' : Done} → idIn (d' .answer) ≡ idIn (d .answer)
@@ -279,7 +270,7 @@ passes limit l c h =
     record { sound = one .0; clock = ltb-false (readingOf c) (l .clock) (two .0) }
 
 -- a submit that passes has short data and finds room
-has-room : (limit : ℕ) (l : Ledger) (fields : Fields) (bytes : List ℕ) (wanted : Bool) (t : ℕ)
+pub has-room : (limit : ℕ) (l : Ledger) (fields : Fields) (bytes : List ℕ) (wanted : Bool) (t : ℕ)
     → refusal limit l (submit fields bytes wanted t) ≡ none → (length bytes ≤ maxData) × (length (l .live) ≡ limit → ⊥)
 unfolding firstOf
 has-room limit l fields bytes wanted t h =

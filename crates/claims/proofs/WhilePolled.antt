@@ -14,7 +14,7 @@ use Rattle.claims.specs.Trace.{Asked, isAccepted, idIn, endings, request
 use Rattle.claims.specs.ClockRule.{acceptedIn, EachFollows, ClockRule}
 use Rattle.claims.specs.Resting.{busyInARow, restless, NewestPolled, PolledAt, pollsToRest}
 use Rattle.claims.specs.Clauses.{All, Bounded}
-use Rattle.claims.proofs.Cases.{by-test}
+use Rattle.ledger.proofs.Cases.{by-test}
 use Rattle.claims.proofs.ClockTest.{without-newest}
 use Rattle.claims.proofs.Lists.{all-map}
 use Rattle.claims.proofs.Belonging.{requests-stay}

@@ -8,6 +8,7 @@ use Rattle.line.specs.Receiving as line
 use Rattle.line.specs.Receiving.{more, item}
 use Rattle.line.specs.Cuts.{Found, found, Heard, handed}
 use Rattle.ledger.specs.Answers.{Answer, refused, opened, submitted, received, polled}
+use Rattle.ledger.specs.Numbers.{numbersOf}
 use Rattle.ledger.specs.Calls.{Call, submit, receive, poll}
 use Rattle.ledger.specs.Runs.{Entry}
 
@@ -17,18 +18,10 @@ broughtBy (submit fields bytes wanted clock) = []
 broughtBy (receive bytes reply buffer clock) = bytes
 broughtBy (poll output clock) = []
 
--- how many of them an answer says were taken
-abbrev pub takenIn : Answer → ℕ
-takenIn (refused number) = 0
-takenIn opened = 0
-takenIn (submitted id) = 0
-takenIn (received r) = r .taken
-takenIn (polled p) = 0
-
--- "the bytes taken", joined, in their order
+-- "the bytes taken", joined, in their order: as many of a call's as its answer says
 unfoldable pub bytesTaken : List Entry → List ℕ
 bytesTaken [] = []
-bytesTaken (e ∷ before) = bytesTaken before ++ take (takenIn (e .answer)) (broughtBy (e .call))
+bytesTaken (e ∷ before) = bytesTaken before ++ take (numbersOf (e .answer) .taken) (broughtBy (e .call))
 
 -- the item of an answer of the line, if it is one
 abbrev pub itemIn : line.Answer → List Item

@@ -4,3 +4,4 @@ pub mod Resting
 pub mod Hearing
 pub mod Clauses
 pub mod PlainTerms
+pub mod Throughout

@@ -1,7 +1,7 @@
 -- Document 01, "What demand 3 compares": requests, endings and frames as calls and outcomes alone show them. What has happened is a
 -- list, newest first, so that the calls before one are those behind it.
 use Prim.Native.Nat.{ℕ, _+_}
-use mathlib.Core.Bool.{Bool, true, false, not, cond as if}
+use mathlib.Core.Bool.{Bool, true, false, cond as if}
 use mathlib.Core.List.{List, [], _∷_, _++_}
 use mathlib.Core.Option.{Option, none, some, Option·map}
 use lib.Dec.{eqb}
@@ -9,7 +9,7 @@ use lib.ListN.{length, take, drop}
 use Rattle.message.specs.Bytes.{headerLength}
 use Rattle.command.specs.Payload.{rqidIn}
 use Rattle.ledger.specs.Answers.{Ending, Poll, sent, ended, quiet, Answer, refused, opened, submitted, received, polled}
-use Rattle.ledger.specs.Calls.{submit, poll, readingOf}
+use Rattle.ledger.specs.Calls.{readingOf}
 use Rattle.ledger.specs.Runs.{Entry}
 
 -- "Accepted means not refused."

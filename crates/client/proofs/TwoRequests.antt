@@ -21,7 +21,7 @@ use Rattle.ledger.specs.Calls.{readingOf}
 use Rattle.ledger.specs.Refusals.{firstOf}
 use Rattle.ledger.specs.Runs.{open-for, openedBy, reservedFor, Entry, pastFrom, pastOf}
 use Rattle.claims.specs.ClockRule.{acceptedIn, MayFollow, ClockRule}
-use Rattle.claims.proofs.Cases.{by-test}
+use Rattle.ledger.proofs.Cases.{by-test}
 use Rattle.host_answers.specs.Promises as promise
 use Rattle.host_answers.specs.declared.Opened as opening
 use Rattle.host_claims.specs.Claims.{Begins}

@@ -22,6 +22,8 @@ use Rattle.ledger.specs.Examples.{AreTrue, table}
 use Rattle.ledger.specs.FaultRuns.{faultRuns}
 use Rattle.ledger.specs.ItemRuns.{itemRuns}
 use Rattle.ledger.specs.RefusalRuns.{refusalRuns}
+use Rattle.ledger.specs.KeptRuns.{keptRuns}
+use Rattle.ledger.specs.RequestRuns.{requestRuns}
 use Rattle.ledger.proofs.Once.{AgreesOnce, IsTrueOnce, AreTrueOnce, are-true}
 
 -- all that a table is computed with
@@ -35,7 +37,8 @@ infixr 4 _also_
 _also_ : {A B : Type 0} → A → B → A × B
 a also b = (a, b)
 
--- each is computed: an equation for a checksum or a message, two for a call, and one for the bytes held in the end
+-- each is computed: an equation for a checksum or a message, two for a call, one more for a receive, which takes all its bytes, and one
+-- for the bytes held in the end
 examples-once : AreTrueOnce table
 unfolding computed
 examples-once =
@@ -45,13 +48,13 @@ examples-once =
     also refl
     also refl
     also (refl, refl, (refl, refl, refl))
-    also (refl, refl, refl)
-    also (refl, refl, refl)
-    also (refl, refl, refl)
+    also (refl, (refl, refl, refl))
+    also (refl, (refl, refl, refl))
+    also (refl, (refl, refl, refl))
     also (refl, refl, (refl, refl, (refl, refl, (refl, refl, (refl, refl, (refl, refl, (refl, refl, refl)))))))
-    also (refl, refl, (refl, refl, (refl, refl, (refl, refl, (refl, refl, (refl, refl, refl))))))
-    also (refl, refl, (refl, refl, (refl, refl, (refl, refl, refl))))
-    also (refl, refl, (refl, refl, (refl, refl, (refl, refl, (refl, refl, (refl, refl, (refl, refl, refl)))))))
+    also (refl, refl, (refl, refl, (refl, refl, (refl, refl, (refl, (refl, refl, (refl, refl, refl)))))))
+    also (refl, refl, (refl, refl, (refl, (refl, refl, (refl, refl, refl)))))
+    also (refl, refl, (refl, refl, (refl, refl, (refl, refl, (refl, refl, (refl, (refl, refl, (refl, refl, refl))))))))
     also (refl, refl, (refl, refl, (refl, refl, (refl, refl, refl))))
     also tt
 
@@ -61,7 +64,12 @@ examples = are-true table examples-once
 -- and the runs that show the faults
 fault-runs-once : AreTrueOnce faultRuns
 unfolding computed
-fault-runs-once = (refl, refl, refl) also (refl, refl, (refl, refl, refl)) also (refl, refl, (refl, refl, refl)) also (refl, refl, (refl, refl, (refl, refl, refl))) also tt
+fault-runs-once =
+    (refl, (refl, refl, refl))
+    also (refl, (refl, refl, (refl, (refl, refl, refl))))
+    also (refl, (refl, refl, (refl, (refl, refl, refl))))
+    also (refl, refl, (refl, refl, (refl, refl, refl)))
+    also tt
 
 pub fault-runs : AreTrue faultRuns
 fault-runs = are-true faultRuns fault-runs-once
@@ -70,17 +78,17 @@ fault-runs = are-true faultRuns fault-runs-once
 item-runs-once : AreTrueOnce itemRuns
 unfolding computed
 item-runs-once =
-    (refl, refl, refl)
-    also (refl, refl, refl)
-    also (refl, refl, refl)
-    also (refl, refl, (refl, refl, refl))
-    also (refl, refl, refl)
-    also (refl, refl, refl)
-    also (refl, refl, refl)
-    also (refl, refl, refl)
-    also (refl, refl, refl)
-    also (refl, refl, refl)
-    also (refl, refl, refl)
+    (refl, (refl, refl, refl))
+    also (refl, (refl, refl, refl))
+    also (refl, (refl, refl, refl))
+    also (refl, (refl, refl, (refl, refl, refl)))
+    also (refl, (refl, refl, refl))
+    also (refl, (refl, refl, refl))
+    also (refl, (refl, refl, refl))
+    also (refl, (refl, refl, refl))
+    also (refl, (refl, refl, refl))
+    also (refl, (refl, refl, refl))
+    also (refl, (refl, refl, refl))
     also tt
 
 pub item-runs : AreTrue itemRuns
@@ -106,12 +114,45 @@ refusal-runs-once =
     also (refl, refl, refl)
     also (refl, refl, refl)
     also (refl, refl, refl)
-    also (refl, refl, (refl, refl, (refl, refl, refl)))
+    also (refl, refl, (refl, (refl, refl, (refl, refl, refl))))
     also (refl, refl)
     also (refl, refl)
     also (refl, refl, (refl, refl, refl))
-    also (refl, refl, (refl, refl, (refl, refl, refl)))
+    also (refl, (refl, refl, (refl, (refl, refl, (refl, refl, refl)))))
     also tt
 
 pub refusal-runs : AreTrue refusalRuns
 refusal-runs = are-true refusalRuns refusal-runs-once
+
+-- what calls leave
+kept-runs-once : AreTrueOnce keptRuns
+unfolding computed
+kept-runs-once =
+    (refl, (refl, refl, (refl, refl, (refl, refl, (refl, refl, (refl, (refl, refl, (refl, (refl, refl, (refl, (refl, refl, (refl, (refl, refl, (refl, (refl, refl, (refl, refl, (refl, (refl, refl, refl))))))))))))))))))
+    also (refl, (refl, refl, (refl, (refl, refl, (refl, (refl, refl, (refl, (refl, refl, refl))))))))
+    also (refl, (refl, refl, (refl, (refl, refl, refl))))
+    also (refl, refl, (refl, refl, (refl, refl, (refl, (refl, refl, (refl, refl, (refl, refl, (refl, refl, (refl, (refl, refl, (refl, (refl, refl, refl))))))))))))
+    also (refl, refl, (refl, refl, (refl, refl, (refl, refl, (refl, (refl, refl, (refl, refl, (refl, (refl, refl, refl)))))))))
+    also (refl, refl, (refl, refl, (refl, (refl, refl, (refl, refl, (refl, refl, (refl, (refl, refl, refl))))))))
+    also tt
+
+pub kept-runs : AreTrue keptRuns
+kept-runs = are-true keptRuns kept-runs-once
+
+-- and the paths of requests
+request-runs-once : AreTrueOnce requestRuns
+unfolding computed
+request-runs-once =
+    (refl, refl, (refl, refl, (refl, (refl, refl, (refl, refl, refl)))))
+    also (refl, refl, (refl, refl, refl))
+    also (refl, refl, (refl, refl, (refl, (refl, refl, (refl, refl, (refl, refl, (refl, refl, refl)))))))
+    also (refl, refl, (refl, refl, refl))
+    also (refl, refl, refl)
+    also (refl, refl, refl)
+    also (refl, (refl, refl, refl))
+    also (refl, (refl, refl, refl))
+    also (refl, (refl, refl, refl))
+    also tt
+
+pub request-runs : AreTrue requestRuns
+request-runs = are-true requestRuns request-runs-once

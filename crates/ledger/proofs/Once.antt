@@ -1,19 +1,28 @@
--- A table's statement in a form in which the prover computes each value once: before a call its input bytes, and after it the next
--- ledger, are made numbers, lists and constructors, and the rest of the run is over those. A table that is true in this form is
--- true (`are-true`). Nothing here says what a call comes to: that is `step` in both forms.
-use Prim.Native.Nat.{ℕ, zero, suc}
+-- A table's statement in a form in which the prover computes each value once: before a call its input bytes, in a receive what the six
+-- rules say of them, and after it the next ledger, are made numbers, lists and constructors, and the rest of the run is over those. A
+-- table that is true in this form is true (`are-true`). Nothing here says what a call comes to: that is `step` in both forms, with the
+-- search for the smallest number of bytes replaced by one test (`at-last`).
+use Prim.Native.Nat.{ℕ, zero, suc, _-_}
 use mathlib.Core.Bool.{Bool, true, false}
-use mathlib.Core.List.{List, [], _∷_}
-use mathlib.Core.Option.{none, some}
-use mathlib.Core.Path.{_≡_}
-use lib.ListN.{length}
+use mathlib.Core.List.{List, [], _∷_, _++_}
+use mathlib.Core.Option.{Option, none, some}
+use mathlib.Core.Path.{_≡_, refl, sym}
+use lib.ListN.{length, take}
 use Rattle.checksum.specs.Checksum.{checksumOf}
 use Rattle.message.specs.Bytes.{message}
+use Rattle.message.specs.Items as items
+use Rattle.message.specs.Items.{damagedHeader, forbidden, damagedPayload, Scan, undecided, decided, scan, partWith, payloadOf}
+use Rattle.line.specs.Receiving as line
+use Rattle.line.proofs.Taking.{at-last}
 use Rattle.link.specs.Frames.{Frame}
 use Rattle.link.specs.Repeats.{Seen}
 use Rattle.ledger.specs.Parts.{liveMax, State, queued, inFlight, waiting, Request, Ledger}
+use Rattle.ledger.specs.Answers.{Done}
+use Rattle.ledger.specs.Receiving as receiving
+use Rattle.ledger.specs.Receiving.{act, receivedAs}
 use Rattle.ledger.specs.Calls.{Call, submit, receive, poll}
-use Rattle.ledger.specs.Runs.{open-for, step}
+use Rattle.ledger.specs.Refusals.{refusal}
+use Rattle.ledger.specs.Runs.{open-for, answersTo, step}
 use Rattle.ledger.specs.Examples.{Row, Example, checksum, written, opening, calls, Agrees, IsTrue, AreTrue}
 
 -- what is said of a number, with the number computed: the one before its successor
@@ -114,23 +123,78 @@ ledger-is l says h =
     requests (l .live) (λ live.
     numbers (l .held) (λ held. says (ledgerWith l (l .nextSeq) (l .nextId) seen live held)))) h))
 
--- of a call: only a receive's bytes are computed in a table, as a message's
-abbrev call : Call → (Call → Type 0) → Type 0
-call (submit fields bytes wanted clock) says = says (submit fields bytes wanted clock)
-call (receive bytes reply buffer clock) says = numbers bytes (λ bytes. says (receive bytes reply buffer clock))
-call (poll output clock) says = says (poll output clock)
+-- of what the six rules say
+abbrev ruled : Scan → (Scan → Type 0) → Type 0
+ruled (undecided d) says = number d (λ d. says (undecided d))
+ruled (decided damagedHeader d r) says = number d (λ d. number r (λ r. says (decided damagedHeader d r)))
+ruled (decided forbidden d r) says = number d (λ d. number r (λ r. says (decided forbidden d r)))
+ruled (decided damagedPayload d r) says = number d (λ d. number r (λ r. says (decided damagedPayload d r)))
+ruled (decided (items.message type seq len) d r) says =
+    number type (λ type.
+    number seq (λ seq.
+    number len (λ len. number d (λ d. number r (λ r. says (decided (items.message type seq len) d r))))))
 
-call-is : (c : Call) (says : Call → Type 0) → call c says → says c
-call-is (submit fields bytes wanted clock) says h = h
-call-is (receive bytes reply buffer clock) says h = numbers-is bytes (λ bytes. says (receive bytes reply buffer clock)) h
-call-is (poll output clock) says h = h
+ruled-is : (s : Scan) (says : Scan → Type 0) → ruled s says → says s
+ruled-is (undecided d) says h = h
+ruled-is (decided damagedHeader d r) says h = h
+ruled-is (decided forbidden d r) says h = h
+ruled-is (decided damagedPayload d r) says h = h
+ruled-is (decided (items.message type seq len) d r) says h = h
+
+-- what a receive that takes all its bytes is given by the line, from what the rules say of them
+abbrev heardAs : Scan → (looked : List ℕ) (taken : ℕ) → line.Received
+heardAs s looked n = record { answer = line.answered s; payload = partWith s looked; taken = n; held = line.left s looked }
+
+heard-as : (held new : List ℕ) → line.decides (scan (held ++ take (length new - 1) new)) ≡ false
+    → line.receive held new ≡ heardAs (scan (held ++ new)) (held ++ new) (length new)
+unfolding payloadOf
+heard-as held new nothing = at-last held new nothing
+
+-- what a receive comes to, by its refusal and by what the line gives
+abbrev receives : Ledger → line.Received → (bytes reply buffer : List ℕ) (clock : ℕ) → Option ℕ → Done
+receives l r bytes reply buffer t none = receivedAs l r (act l t (r .answer) (r .payload)) reply buffer t
+receives l r bytes reply buffer t (some n) = answersTo l (receive bytes reply buffer t) (some n)
+
+as-step : (l : Ledger) (bytes reply buffer : List ℕ) (t : ℕ)
+    → receives l (line.receive (l .held) bytes) bytes reply buffer t (refusal liveMax l (receive bytes reply buffer t))
+    ≡ step liveMax l (receive bytes reply buffer t)
+unfolding step receiving.receive
+as-step l bytes reply buffer t = go (refusal liveMax l (receive bytes reply buffer t))
+  where
+    go : (o : Option ℕ) → receives l (line.receive (l .held) bytes) bytes reply buffer t o ≡ answersTo l (receive bytes reply buffer t) o
+    go none = refl
+    go (some n) = refl
+
+-- of what a call comes to: only a receive's bytes are computed in a table, as a message's
+abbrev done : Ledger → Call → (Done → Type 0) → Type 0
+done l (submit fields bytes wanted clock) says = says (step liveMax l (submit fields bytes wanted clock))
+done l (receive bytes reply buffer clock) says =
+    numbers bytes (λ bytes.
+    (line.decides (scan (l .held ++ take (length bytes - 1) bytes)) ≡ false)
+    × ruled (scan (l .held ++ bytes)) (λ s.
+    says (receives l (heardAs s (l .held ++ bytes) (length bytes)) bytes reply buffer clock
+    (refusal liveMax l (receive bytes reply buffer clock)))))
+done l (poll output clock) says = says (step liveMax l (poll output clock))
+
+done-is : (l : Ledger) (c : Call) (says : Done → Type 0) → done l c says → says (step liveMax l c)
+done-is l (submit fields bytes wanted clock) says h = h
+done-is l (receive bytes reply buffer clock) says h =
+    let given = numbers-is bytes (λ bytes.
+    (line.decides (scan (l .held ++ take (length bytes - 1) bytes)) ≡ false)
+    × ruled (scan (l .held ++ bytes)) (λ s.
+    says (receives l (heardAs s (l .held ++ bytes) (length bytes)) bytes reply buffer clock
+    (refusal liveMax l (receive bytes reply buffer clock))))) h in
+    let refusal-here = refusal liveMax l (receive bytes reply buffer clock) in
+    let told = ruled-is (scan (l .held ++ bytes)) (λ s.
+    says (receives l (heardAs s (l .held ++ bytes) (length bytes)) bytes reply buffer clock refusal-here)) (given .1) in
+    rw (sym (as-step l bytes reply buffer clock), heard-as (l .held) bytes (given .0)) told
+done-is l (poll output clock) says h = h
 
 -- `Agrees`, `IsTrue` and `AreTrue` in this form
 unfoldable pub AgreesOnce : Ledger → List Row → (held : ℕ) → Type 0
 AgreesOnce l [] held = length (l .held) ≡ held
 AgreesOnce l (row ∷ rows) held =
-    call (row .call) (λ c.
-    let d = step liveMax l c in
+    done l (row .call) (λ d.
     (d .answer ≡ row .answer) × (d .buffers ≡ row .buffers) × ledger (d .next) (λ l. AgreesOnce l rows held))
 
 unfoldable pub IsTrueOnce : Example → Type 0
@@ -143,15 +207,14 @@ unfoldable pub AreTrueOnce : List Example → Type 0
 AreTrueOnce [] = Unit
 AreTrueOnce (x ∷ xs) = IsTrueOnce x × AreTrueOnce xs
 
--- a call's row, of the call as the table has it
-abbrev RowIs : Ledger → Row → List Row → (held : ℕ) → Call → Type 0
-RowIs l row rows held c =
-    let d = step liveMax l c in
-    (d .answer ≡ row .answer) × (d .buffers ≡ row .buffers) × ledger (d .next) (λ l. AgreesOnce l rows held)
+-- a call's row, of what the call comes to
+abbrev RowIs : Row → List Row → (held : ℕ) → Done → Type 0
+RowIs row rows held d = (d .answer ≡ row .answer) × (d .buffers ≡ row .buffers) × ledger (d .next) (λ l. AgreesOnce l rows held)
 
-row-is : (l : Ledger) (row : Row) (rows : List Row) (held : ℕ) → AgreesOnce l (row ∷ rows) held → RowIs l row rows held (row .call)
+row-is : (l : Ledger) (row : Row) (rows : List Row) (held : ℕ) → AgreesOnce l (row ∷ rows) held
+    → RowIs row rows held (step liveMax l (row .call))
 unfolding AgreesOnce
-row-is l row rows held h = call-is (row .call) (RowIs l row rows held) h
+row-is l row rows held h = done-is l (row .call) (RowIs row rows held) h
 
 agrees : (l : Ledger) (rows : List Row) (held : ℕ) → AgreesOnce l rows held → Agrees l rows held
 unfolding AgreesOnce Agrees

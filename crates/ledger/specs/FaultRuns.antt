@@ -33,6 +33,20 @@ flying clock = inFlight (firstSent 1 clock)
 abbrev pub frame : (id : ℕ) → List ℕ
 frame id = message dataSeq 1 (payload fields id [])
 
+-- a data frame of a TYPE at a reading: the word, the ending, the reply and the bytes put into the data buffer
+abbrev pub gets : (clock type seq : ℕ) (payload : List ℕ) → Word → Option Ending → (reply puts : List ℕ) → Row
+gets clock type seq content word ending reply puts = record {
+  call = receive (message type seq content) (zeros (total 0)) (zeros maxData) clock;
+  answer = received (record {
+    item = item (items.message type seq (length content));
+    word = word;
+    taken = total (length content);
+    replied = length reply;
+    ending = ending;
+  });
+  buffers = front (total 0) reply ∷ front maxData puts ∷ [];
+}
+
 -- a DATA_SEQ command of two data bytes, which is acknowledged; the bytes that it puts into the data buffer
 abbrev pub bytes : List ℕ
 bytes = 7 ∷ 8 ∷ []
@@ -41,19 +55,7 @@ abbrev pub told : Fields → (id : ℕ) → Command
 told f id = record { fields = f; rqid = id; length = 2 }
 
 abbrev pub hears : (seq : ℕ) (f : Fields) (id : ℕ) → Word → Option Ending → (puts : List ℕ) → Row
-hears seq f id word ending puts =
-    let input = message dataSeq seq (payload f id bytes) in
-    record {
-      call = receive input (zeros (total 0)) (zeros maxData) 0;
-      answer = received (record {
-        item = item (items.message dataSeq seq 10);
-        word = word;
-        taken = length input;
-        replied = total 0;
-        ending = ending;
-      });
-      buffers = ackMessage seq ∷ front maxData puts ∷ [];
-    }
+hears seq f id word ending puts = gets 0 dataSeq seq (payload f id bytes) word ending (ackMessage seq) puts
 
 -- the fields that answer, and the same with another TC
 abbrev pub answering : Fields

@@ -2,33 +2,20 @@
 use Prim.Native.Nat.{ℕ}
 use mathlib.Core.List.{List, [], _∷_}
 use mathlib.Core.Option.{none}
-use lib.ListN.{length, take}
-use Rattle.message.specs.Bytes.{message, total, dataSeq, dataNsq}
-use Rattle.message.specs.Items as items
+use lib.ListN.{take}
+use Rattle.message.specs.Bytes.{message, dataSeq, dataNsq}
 use Rattle.message.specs.Items.{damagedHeader, forbidden}
 use Rattle.line.specs.Receiving.{item}
-use Rattle.command.specs.Payload.{maxData, payload}
+use Rattle.command.specs.Payload.{payload}
 use Rattle.ledger.specs.Parts.{fresh}
-use Rattle.ledger.specs.Answers.{Word, noWord, stray, notCommand, event, unmatched, received, sent}
+use Rattle.ledger.specs.Answers.{Word, noWord, stray, notCommand, event, unmatched, sent}
 use Rattle.ledger.specs.Receiving.{ackMessage, nakMessage}
-use Rattle.ledger.specs.Calls.{receive}
-use Rattle.ledger.specs.Examples.{Row, Example, calls, zeros, front, fields, polls, receives, case-5, nakItem}
-use Rattle.ledger.specs.FaultRuns.{with-live, request, flying, frame, bytes, told}
+use Rattle.ledger.specs.Examples.{Row, Example, calls, fields, polls, receives, case-5, nakItem}
+use Rattle.ledger.specs.FaultRuns.{with-live, request, flying, frame, gets, bytes, told}
 
 -- a data frame of a TYPE with a payload, for R = 38 with nothing live: the word, the reply and the bytes put into the data buffer
 abbrev pub frameGets : (type : ℕ) (payload : List ℕ) → Word → (reply puts : List ℕ) → Example
-frameGets type content word reply puts =
-    calls (fresh 38) (record {
-      call = receive (message type 9 content) (zeros (total 0)) (zeros maxData) 0;
-      answer = received (record {
-        item = item (items.message type 9 (length content));
-        word = word;
-        taken = total (length content);
-        replied = length reply;
-        ending = none;
-      });
-      buffers = front (total 0) reply ∷ front maxData puts ∷ [];
-    } ∷ []) 0
+frameGets type content word reply puts = calls (fresh 38) (gets 0 type 9 content word none reply puts ∷ []) 0
 
 -- a command of example 6's fields and two data bytes with a request ID
 abbrev pub command : (id : ℕ) → List ℕ

@@ -1,5 +1,6 @@
 pub mod Parts
 pub mod Answers
+pub mod Numbers
 pub mod Submitting
 pub mod Receiving
 pub mod Polling
@@ -10,4 +11,7 @@ pub mod Examples
 pub mod FaultRuns
 pub mod ItemRuns
 pub mod RefusalRuns
+pub mod KeptRuns
+pub mod RequestRuns
+pub mod Changes
 pub mod Promises

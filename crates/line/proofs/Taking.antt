@@ -65,6 +65,15 @@ at-more held new none =
     (λ j h. decides-less (held ++ take j new) (drop j new)
     (rw (append-assoc held (take j new) (drop j new), take-append-drop j new) none)))
 
+-- all bytes are taken where all but the last decide nothing: one test in place of one for each number
+pub at-last : (held new : List ℕ) → decides (scan (held ++ take (length new - 1) new)) ≡ false
+    → receive held new ≡ receivedFrom (held ++ new) (length new)
+at-last held new none =
+    rw (take-length new) at
+    (receive-at held new (length new) (omega arith) (λ h. absurd (omega arith))
+    (λ j h. decides-less (held ++ take j new) (take (length new - 1 - j) (drop j new))
+    (rw (parts held new j (length new - 1) (omega arith)) none)))
+
 -- the held bytes decide an item alone
 pub at-held : (held new : List ℕ) → decides (scan held) ≡ true → receive held new ≡ receivedFrom held 0
 at-held held new here =

@@ -8,9 +8,9 @@ use native.Mathlib.Omega.{arith}
 use lib.Dec.{eqb}
 use lib.ListN.{length}
 use borrow.Author.Tests.{eqb-true, eqb-false, ne-eqb}
 use Rattle.ledger.specs.Parts.{Request}
 use Rattle.ledger.specs.Submitting.{lastId, idAfter, isLive, firstFree}
-use Rattle.claims.proofs.Cases.{by-test}
+use Rattle.ledger.proofs.Cases.{by-test}
 
 -- an ID that may be issued
 pub record Unreserved (r id : ℕ) : Type 0 where
