@@ -1,2 +1,5 @@
 pub mod Putting
+pub mod Joining
 pub mod Turn
+pub mod Onward
+pub mod Laws

@@ -5,6 +5,7 @@ mod sheet; // lines to standard output, many at a time
 ghost use Prim.Native.Nat.{_≤_};
 ghost use lib.ListN.{length};
 ghost use Rattle.line.specs.Receiving.{heldMax};
+ghost use Rattle.listing.specs.Promises.{standing, ListsPiece, ListsSome, ListsAll};
 ghost use Rattle.listing.specs.Text.{lineRoom};
 use crate::sheet::add_line;
 use crate::sheet::end_sheet;
@@ -43,10 +44,12 @@ pub fn list_standard_input() {
 }
 
 // Reads until the input ends or something fails. A proved loop has to end, and nothing says that an input does: so it counts down
-// from a number that no run uses up.
+// from a number that no run uses up. The contract speaks of some input, since none can say what is read.
 fn list_all(held: &mut [u8; HELD_MAX], out: &mut [u8]) -> Listing
     requires { ⌜ lineRoom ≤ length (now out) ⌝ }
     ensures { λ r. ⌜ (r .count ≤ heldMax) × (r .used ≤ length (now (out .exit))) ⌝ }
+    ensures { λ r. ⌜ ListsAll (r .next) (length (now (out .entry)))
+        (standing (r .used) (r .count) (now (out .exit)) (now (held .exit))) ⌝ }
 {
     let mut count = 0;
     let mut used = 0;
@@ -68,10 +71,12 @@ fn list_all(held: &mut [u8; HELD_MAX], out: &mut [u8]) -> Listing
     }
 }
 
-// Reads once, and lists what came.
+// Reads once, and lists what came: in the contract, some piece.
 fn list_some(held: &mut [u8; HELD_MAX], count: usize, out: &mut [u8], used: usize) -> Listing
     requires { ⌜ (count ≤ heldMax) × (used ≤ length (now out)) × (lineRoom ≤ length (now out)) ⌝ }
     ensures { λ r. ⌜ (r .count ≤ heldMax) × (r .used ≤ length (now (out .exit))) ⌝ }
+    ensures { λ r. ⌜ ListsSome (r .next) (length (now (out .entry))) (standing used count (now (out .entry)) (now (held .entry)))
+        (standing (r .used) (r .count) (now (out .exit)) (now (held .exit))) ⌝ }
 {
     let mut piece = io::large_buffer();
     let got = libc::read(STDIN_FILENO, &mut piece);
@@ -93,7 +98,8 @@ fn list_some(held: &mut [u8; HELD_MAX], count: usize, out: &mut [u8], used: usiz
     list_piece(held, count, out, used, &piece[..n])
 }
 
-// Hands the piece in, its untaken rest again, until *more*.
+// Hands the piece in, its untaken rest again, until *more*: a line for each item joins those that wait.
+// Ruled out: an item without its line, and lines of the pieces before that are forgotten.
 fn list_piece(
     held: &mut [u8; HELD_MAX],
     count: usize,
@@ -103,6 +109,8 @@ fn list_piece(
 ) -> Listing
     requires { ⌜ (count ≤ heldMax) × (used ≤ length (now out)) × (lineRoom ≤ length (now out)) ⌝ }
     ensures { λ r. ⌜ (r .count ≤ heldMax) × (r .used ≤ length (now (out .exit))) ⌝ }
+    ensures { λ r. ⌜ ListsPiece (r .next) (length (now (out .entry))) (standing used count (now (out .entry)) (now (held .entry)))
+        (now (piece .entry)) (standing (r .used) (r .count) (now (out .exit)) (now (held .exit))) ⌝ }
 {
     let mut rest = piece;
     let mut count = count;

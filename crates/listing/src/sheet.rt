@@ -1,8 +1,9 @@
 // Lines to standard output, many at a time: they wait at the front of a lent buffer until it has no room for one more.
 ghost use Prim.Native.Nat.{_≤_, _<_};
-ghost use lib.ListN.{length};
+ghost use lib.ListN.{length, take};
 ghost use Rattle.message.specs.Promises.{itemOf};
 ghost use Rattle.listing_words.specs.Words.{decimalLimit};
+ghost use Rattle.listing.specs.Promises.{Adds};
 ghost use Rattle.listing.specs.Text.{lineRoom, lenOf};
 use crate::lines::LINE_ROOM;
 use crate::lines::put_end;
@@ -16,10 +17,11 @@ pub(crate) struct Sheet {
     pub fine: bool,
 }
 
-// The line of an item joins those that wait.
+// The line of an item joins those that wait; where there is no room for it, those are written first, and it waits alone.
+// Ruled out: a line that is put over those that wait.
 pub(crate) fn add_line(out: &mut [u8], used: usize, item: Item) -> Sheet
     requires { ⌜ (used ≤ length (now out)) × (lineRoom ≤ length (now out)) × (lenOf (itemOf item) < decimalLimit) ⌝ }
-    ensures { λ r. ⌜ r .used ≤ length (now (out .exit)) ⌝ }
+    ensures { λ r. ⌜ Adds r (length (now (out .entry))) (take used (now (out .entry))) (itemOf item) (now (out .exit)) ⌝ }
 {
     if out.len() - used < LINE_ROOM {
         if !io::write_all(STDOUT_FILENO, &out[..used]) {

@@ -1,8 +1,12 @@
--- `listing::sheet::add_line` is safe: the bytes that wait lie within the buffer.
-use mathlib.Core.Path.{sym}
+-- `listing::sheet::add_line` meets its contract: by whether there is room, what `put_line` puts behind those that wait or alone.
+use mathlib.Core.Path.{refl, sym}
 use native.Mathlib.Omega.{arith}
+use lib.ListN.{length}
 use lib.Seq.{length-take-le}
 use borrow.Author.Needs.{needs}
+use denote.Ref.{now}
+use Rattle.listing.specs.Waiting.{waits}
+use Rattle.listing.proofs.Joining.{has-room, no-room}
 use Rattle.listing.proofs.sheet.add_line.Statement.{statement}
 use Rattle.listing.proofs.sheet.add_line.Tie as tie
 
@@ -22,7 +26,9 @@ same-length : tie.Need-same-length
 same-length c = search needs
 
 returns : tie.Need-returns
-returns c = search needs
+returns c =
+    let a = c .before .before .before .before .before .args in
+    record { within = omega arith; joins = (no-room (length (now (a .out))) (a .used) (now (a .out)) (omega arith) (omega arith), refl) }
 
 put-line-requires : tie.Need-put-line-requires
 put-line-requires c κs = search needs
@@ -31,7 +37,11 @@ same-length-2 : tie.Need-same-length-2
 same-length-2 c = search needs
 
 returns-2 : tie.Need-returns-2
-returns-2 c = search needs
+unfolding waits
+returns-2 c =
+    let a = c .before .before .before .before .before .before .before .before .before .args in
+    let p = c .before .before .put-line .ensures in
+    record { within = p .0; joins = rw (no-room (length (now (a .out))) (a .used) (now (a .out)) (omega arith) (omega arith)) (p .1) }
 
 put-line-requires-2 : tie.Need-put-line-requires-2
 put-line-requires-2 c κs = search needs
@@ -40,7 +50,11 @@ same-length-3 : tie.Need-same-length-3
 same-length-3 c = search needs
 
 returns-3 : tie.Need-returns-3
-returns-3 c = search needs
+unfolding waits
+returns-3 c =
+    let a = c .before .before .before .before .before .before .args in
+    let p = c .before .before .put-line2 .ensures in
+    record { within = p .0; joins = rw (has-room (length (now (a .out))) (a .used) (now (a .out)) (omega arith) (omega arith)) (p .1) }
 
 pub add-line-spec : {M : Type 1} → statement M
 add-line-spec =
