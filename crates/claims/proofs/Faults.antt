@@ -7,11 +7,10 @@ use mathlib.Core.Option.{none, some}
 use mathlib.Core.Path.{_≡_, refl, sym, _∙_, ap}
 use native.Mathlib.Omega.{arith}
 use lib.Dec.{eqb, leb}
-use lib.ListN.{length, drop}
 use borrow.Author.Tests.{eqb-true, le-leb}
-use Rattle.message.specs.Bytes.{ack, nak, dataSeq, syn}
-use Rattle.message.specs.Items.{Scan, damagedPayload, decided, dropped, scan}
-use Rattle.message.proofs.Rules.{Applied, by-1, by-2, by-3, by-4, by-5, by-6, applied}
+use Rattle.message.specs.Bytes.{ack, nak, dataSeq}
+use Rattle.message.specs.Items.{damagedPayload, decided, scan}
+use Rattle.message.proofs.Laws.{damaged-payload-removes-syn}
 use Rattle.command.specs.Payload.{isCommand, fieldsIn, rqidIn, dataIn, answers}
 use Rattle.message.proofs.Headers.{both}
 use Rattle.link.specs.Frames.{Frame, acknowledgedBy, withMark}
@@ -150,17 +149,8 @@ module _ (l : Ledger) (t : ℕ) (payload : List ℕ) (x : Ending) where
       ends
 
 -- 5. "The search going on after the whole damaged message, swallowing the next.": with a damaged payload only SYN is removed
-pub damaged-removes-syn : (xs : List ℕ) {d r : ℕ} → scan xs ≡ decided damagedPayload d r → r ≡ length syn
-unfolding scan
-damaged-removes-syn xs {d} {r} h = go (scan xs) (applied (dropped xs) (drop (dropped xs) xs)) h
-  where
-    go : (s : Scan) → Applied (dropped xs) (drop (dropped xs) xs) s → s ≡ decided damagedPayload d r → r ≡ length syn
-    go s (by-1 short e) h = let z : _≡_ {A = ℕ} 0 1 = cc in absurd (omega arith)
-    go s (by-2 long bad e) h = cc
-    go s (by-3 long sound bad e) h = cc
-    go s (by-4 long sound fine short e) h = let z : _≡_ {A = ℕ} 0 1 = cc in absurd (omega arith)
-    go s (by-5 long sound fine whole bad e) h = cc
-    go s (by-6 long sound fine whole good e) h = let z : _≡_ {A = ℕ} 0 1 = cc in absurd (omega arith)
+pub damaged-removes-syn : (xs : List ℕ) {d r : ℕ} → scan xs ≡ decided damagedPayload d r → r ≡ 2
+damaged-removes-syn xs h = damaged-payload-removes-syn xs h
 
 -- Poll's step 1 comes first: the oldest waiting request whose time is up ends, whatever else is due
 pub overdue-ends-first : (l : Ledger) (t : ℕ) (b a : List Request) (q : Request) (since : ℕ) → l .live ≡ b ++ (q ∷ a)

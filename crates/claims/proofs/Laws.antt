@@ -8,8 +8,9 @@ use mathlib.Core.Option.{Option, none, some}
 use mathlib.Core.Path.{_≡_, refl}
 use native.Mathlib.Omega.{arith}
 use lib.ListN.{length}
-use Rattle.message.specs.Bytes.{syn, ack, nak, dataSeq, total, maxLen}
-use Rattle.message.specs.Items.{damagedPayload, decided, scan}
+use Rattle.message.specs.Bytes.{ack, nak, dataSeq, total, maxLen}
+use Rattle.message.specs.Items.{damagedHeader, forbidden, damagedPayload, decided, scan}
+use Rattle.message.proofs.Laws as messages
 use Rattle.line.specs.Receiving.{more}
 use Rattle.command.specs.Payload.{Fields}
 use Rattle.link.specs.Frames.{Frame}
@@ -57,8 +58,20 @@ use Rattle.claims.proofs.Refused as refused
 use Rattle.claims.proofs.Faults as faults
 use Rattle.claims.proofs.UselessBuilds as useless
 
--- "How bytes become items", demand 2's statement about cuts: the items of a list's accepted receives, in order, with what is held in the
--- end, are those of the bytes taken, joined, whatever submits, polls, refused calls and cuts stand between
+-- "How bytes become items", "After 2, 3 and 5 only the two SYN bytes are removed": with a damaged header
+pub damaged-header-removes-syn : (xs : List ℕ) {d r : ℕ} → scan xs ≡ decided damagedHeader d r → r ≡ 2
+damaged-header-removes-syn xs h = messages.damaged-header-removes-syn xs h
+
+-- with a forbidden one
+pub forbidden-removes-syn : (xs : List ℕ) {d r : ℕ} → scan xs ≡ decided forbidden d r → r ≡ 2
+forbidden-removes-syn xs h = messages.forbidden-removes-syn xs h
+
+-- and with a damaged payload, so that the next message is not swallowed
+pub damaged-removes-syn : (xs : List ℕ) {d r : ℕ} → scan xs ≡ decided damagedPayload d r → r ≡ 2
+damaged-removes-syn xs h = faults.damaged-removes-syn xs h
+
+-- demand 2's statement about cuts: the items of a list's accepted receives, in order, with what is held in the end, are those of the
+-- bytes taken, joined, whatever submits, polls, refused calls and cuts stand between
 pub heard-as-joined : (limit given : ℕ) (cs : List Call)
     → HeardAs (run limit (start given) cs .past) (run limit (start given) cs .ledger .held)
 heard-as-joined limit given cs = hearing.as-joined limit given cs
@@ -131,10 +144,6 @@ sequenced-is-acknowledged l t seq payload = faults.sequenced-is-acknowledged l t
 pub response-matches-every-field : (l : Ledger) (t : ℕ) (payload : List ℕ) (x : Ending) → onData l t payload .ending ≡ some x
     → Matched l payload x
 response-matches-every-field l t payload x ends = faults.response-matches-every-field l t payload x ends
-
--- with a damaged payload only SYN is removed
-pub damaged-removes-syn : (xs : List ℕ) {d r : ℕ} → scan xs ≡ decided damagedPayload d r → r ≡ length syn
-damaged-removes-syn xs h = faults.damaged-removes-syn xs h
 
 -- **Poll**: what an accepted one changes, and that all else stays. The next SEQ changes by a first transmission alone, and by every such
 pub poll-changes : (limit : ℕ) (l : Ledger) (output : List ℕ) (t : ℕ) (p : Poll)

@@ -1,8 +1,8 @@
--- What each answer of the writer tells: an accepted message fits, and a refusal leaves the buffer.
+-- What each answer of the writer tells: an accepted message fits, and a refusal has one of two numbers and leaves the buffer.
 use Prim.Native.Nat.{ℕ, _+_, _≤_}
 use mathlib.Core.Bool.{Bool, true, false, not, cond as if}
 use mathlib.Core.List.{List, [], _∷_}
-use mathlib.Core.Logic.{⊎-elim}
+use mathlib.Core.Logic.{_⊎_, inl, inr, ⊎-elim}
 use mathlib.Core.Path.{_≡_, refl}
 use native.Mathlib.Omega.{arith}
 use lib.Dec.{ltb}
@@ -11,7 +11,7 @@ use borrow.Author.Tests.{ltb-false}
 use denote.Enum.Declared.{tagOf}
 use types.Run.{OneOf}
 use Rattle.message.specs.Bytes.{message, maxLen, total, writable}
-use Rattle.message.specs.Writing.{accepted, refused, written, placed, after}
+use Rattle.message.specs.Writing.{forbiddenHeader, noRoom, accepted, refused, written, placed, after}
 use Rattle.message.specs.Promises.{answerOf, Wrote}
 use Rattle.message.specs.declared.Written.{Written}
 use Rattle.message.specs.declared.Written.the-variants.{Length, Forbidden, NoRoom}
@@ -24,7 +24,7 @@ pub record Passed (n size place type seq len : ℕ) : Type 0 where
   pub room : place + total len ≤ size
   pub count : n ≡ total len
 
-tests : (w past : Bool) (n k : ℕ) → accepted n ≡ if (not w) (refused 7) (if past (refused 6) (accepted k))
+tests : (w past : Bool) (n k : ℕ) → accepted n ≡ if (not w) (refused forbiddenHeader) (if past (refused noRoom) (accepted k))
     → (w ≡ true) × ((past ≡ false) × (n ≡ k))
 tests true false n k h = (refl, (refl, cc))
 tests true true n k h = let z : _≡_ {A = ℕ} 0 1 = cc in absurd (omega arith)
@@ -43,11 +43,12 @@ fitting r n s p t q len told h =
     let t = passed {n = n} s p t q len (rw told at h) in (writable-short _ len _ (t .sound), t .room)
 
 -- the answers of `written`, from the two tests
-pub says-7 : (s p t q len : ℕ) → writable t len q ≡ false → written s p t q len ≡ refused 7
+pub says-7 : (s p t q len : ℕ) → writable t len q ≡ false → written s p t q len ≡ refused forbiddenHeader
 unfolding written
 says-7 s p t q len h = rw h
 
-pub says-6 : (s p t q len : ℕ) → writable t len q ≡ true → ltb s (p + total len) ≡ true → written s p t q len ≡ refused 6
+pub says-6 : (s p t q len : ℕ) → writable t len q ≡ true → ltb s (p + total len) ≡ true
+    → written s p t q len ≡ refused noRoom
 unfolding written
 says-6 s p t q len h past = rw (h, past)
 
@@ -55,6 +56,17 @@ pub says-length : (s p t q len : ℕ) → writable t len q ≡ true → ltb s (p
     → written s p t q len ≡ accepted (total len)
 unfolding written
 says-length s p t q len h room = rw (h, room)
+
+-- a refusal's number is one of the table's two
+number : (w past : Bool) (n k : ℕ) → refused n ≡ if (not w) (refused forbiddenHeader) (if past (refused noRoom) (accepted k))
+    → (n ≡ forbiddenHeader) ⊎ (n ≡ noRoom)
+number true false n k h = let z : _≡_ {A = ℕ} 0 1 = cc in absurd (omega arith)
+number true true n k h = inr cc
+number false past n k h = inl cc
+
+pub refused-with : {n : ℕ} (s p t q len : ℕ) → refused n ≡ written s p t q len → (n ≡ forbiddenHeader) ⊎ (n ≡ noRoom)
+unfolding written
+refused-with {n} s p t q len h = number (writable t len q) (ltb s (p + total len)) n (total len) h
 
 -- an answer that is no length leaves the buffer
 left : (r : Written) (p : ℕ) (m l : List ℕ) → OneOf (1 ∷ 2 ∷ []) (tagOf the-type r) → l ≡ after (answerOf r) p m l

@@ -9,7 +9,7 @@ use borrow.Author.Tests.{eqb-true}
 use Rattle.checksum.specs.Checksum.{checksumOf}
 use Rattle.message.specs.Items as items
 use Rattle.message.specs.Bytes.{headerLength, total, allowed}
-use Rattle.message.specs.Items.{Item, Scan, decided, dropped, scan, typeIn, lenIn, seqIn, fieldsIn, headerChecksumIn, payloadIn, payloadChecksumIn}
+use Rattle.message.specs.Items.{Item, Scan, decided, dropped, removedWith, scan, typeIn, lenIn, seqIn, fieldsIn, headerChecksumIn, payloadIn, payloadChecksumIn}
 use Rattle.message.proofs.Dropping.{dropped-within}
 use Rattle.message.proofs.Rules.{Applied, by-1, by-2, by-3, by-4, by-5, by-6, applied}
 
@@ -23,12 +23,12 @@ pub record FoundAt (n : ℕ) (xs : List ℕ) (d r : ℕ) : Type 0 where
 found-by : (n : ℕ) (xs : List ℕ) {i : Item} {d r : ℕ} (s : Scan) → Applied n xs s → s ≡ decided i d r → FoundAt n xs d r
 found-by n xs s (by-1 short e) h = let z : _≡_ {A = ℕ} 0 1 = cc in absurd (omega arith)
 found-by n xs {i} {d} {r} s (by-2 long bad e) h =
-    let count : r ≡ 2 = cc in record { place = cc; long = long; some = omega arith; within = omega arith }
+    let count : r ≡ removedWith items.damagedHeader = cc in record { place = cc; long = long; some = omega arith; within = omega arith }
 found-by n xs {i} {d} {r} s (by-3 long sound bad e) h =
-    let count : r ≡ 2 = cc in record { place = cc; long = long; some = omega arith; within = omega arith }
+    let count : r ≡ removedWith items.forbidden = cc in record { place = cc; long = long; some = omega arith; within = omega arith }
 found-by n xs s (by-4 long sound fine short e) h = let z : _≡_ {A = ℕ} 0 1 = cc in absurd (omega arith)
 found-by n xs {i} {d} {r} s (by-5 long sound fine whole bad e) h =
-    let count : r ≡ 2 = cc in record { place = cc; long = long; some = omega arith; within = omega arith }
+    let count : r ≡ removedWith items.damagedPayload = cc in record { place = cc; long = long; some = omega arith; within = omega arith }
 found-by n xs {i} {d} {r} s (by-6 long sound fine whole good e) h =
     let count : r ≡ total (lenIn xs) = cc in record { place = cc; long = long; some = omega arith; within = omega arith }
 

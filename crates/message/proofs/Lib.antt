@@ -4,6 +4,7 @@ pub mod Accepted
 pub mod Dropping
 pub mod Rules
 pub mod Found
+pub mod Removed
 pub mod ReadWritten
 pub mod WrittenRead
 pub mod More

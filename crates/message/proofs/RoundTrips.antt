@@ -9,7 +9,7 @@ use borrow.Author.Tests.{le-ltb}
 use Rattle.message.specs.Bytes as bytes
 use Rattle.message.specs.Bytes.{payloadAt, nak, total, allowed}
 use Rattle.message.specs.Items.{message, decided, scan, payloadOf}
-use Rattle.message.specs.Writing.{accepted, placed}
+use Rattle.message.specs.Writing.{accepted, written, placed}
 use Rattle.message.specs.Promises.{answerOf, Wrote}
 use Rattle.message.specs.declared.Written.{Written}
 use Rattle.message.specs.declared.Written.the-variants.{Length}
@@ -45,15 +45,20 @@ write-around-then-read {n} {place} {type} {seq} {len} {entry} wrote =
     let p = passed (length entry) place type seq len (wrote .answers) in
     written-read-back wrote (simp (length-take, length-drop) (omega arith))
 
+-- of a message that was read the writer answers the length, where there is room for it
+pub read-is-accepted : (xs : List ℕ) {type seq len d r : ℕ} (size place : ℕ) → scan xs ≡ decided (message type seq len) d r
+    → (type ≡ nak → seq ≡ 0) → place + r ≤ size → written size place type seq (length (payloadOf xs)) ≡ accepted r
+read-is-accepted xs {type} {seq} {len} {d} {r} size place h zero room =
+    let m = message-at xs h in
+    rw (payload-length xs h, m .removed)
+    (says-length size place type seq len (allowed-writable type len seq (m .fine) zero)
+    (le-ltb size (place + total len) (omega arith)))
+
 pub read-then-write : (xs : List ℕ) {type seq len d r place : ℕ} {entry exit : List ℕ} {answer : Written}
     → ((i : ℕ) → getD xs i 0 < 256)
     → scan xs ≡ decided (message type seq len) d r → (type ≡ nak → seq ≡ 0) → place + r ≤ length entry
     → Wrote answer place type seq (length (payloadOf xs)) (payloadOf xs) entry exit
     → (answerOf answer ≡ accepted r) × (exit ≡ placed place (take r (drop d xs)) entry)
-read-then-write xs {type} {seq} {len} {d} {r} {place} {entry} {exit} {answer} small h zero room wrote =
-    let m = message-at xs h in
-    let size = payload-length xs h in
-    let says = says-length (length entry) place type seq len (allowed-writable type len seq (m .fine) zero)
-    (le-ltb (length entry) (place + total len) (omega arith)) in
-    let answers : answerOf answer ≡ accepted r = wrote .answers ∙ rw (size, m .removed) says in
+read-then-write xs {place = place} {entry = entry} small h zero room wrote =
+    let answers = wrote .answers ∙ read-is-accepted xs (length entry) place h zero room in
     (answers, wrote .leaves ∙ rw (answers, written-read xs small h))
