@@ -1,1 +1,4 @@
+pub mod Rows
+pub mod Told
+pub mod RoundTrips
 pub mod Laws

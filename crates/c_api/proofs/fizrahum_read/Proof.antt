@@ -4,7 +4,7 @@ use native.Mathlib.Omega.{arith}
 use borrow.Author.Needs.{needs}
 use denote.Ref.{now}
 use Rattle.c_api.specs.Numbers.{numbersOf}
-use Rattle.c_api.proofs.Laws.{place-within}
+use Rattle.c_api.proofs.Told.{place-within}
 use Rattle.c_api.proofs.fizrahum_read.Statement.{statement}
 use Rattle.c_api.proofs.fizrahum_read.Tie as tie
 
