@@ -89,6 +89,13 @@ first-not-due seq clock = due-early (firstSent seq clock) clock refl (omega arit
 pub again-not-due : (f : Frame) (clock : ℕ) → due (sentAgain f clock) clock ≡ false
 again-not-due f clock = due-early (sentAgain f clock) clock refl (omega arith)
 
+-- "sent again, the same bytes": its SEQ stays, and a NAK leaves it too
+pub again-same-seq : (f : Frame) (clock : ℕ) → sentAgain f clock .seq ≡ f .seq
+again-same-seq f clock = refl
+
+pub mark-same-seq : (f : Frame) → withMark f .seq ≡ f .seq
+mark-same-seq f = refl
+
 -- a NAK makes it due at once
 pub mark-due : (f : Frame) (clock : ℕ) → due (withMark f) clock ≡ true
 mark-due f clock = due-marked (withMark f) clock refl

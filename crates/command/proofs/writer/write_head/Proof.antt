@@ -1,13 +1,13 @@
 -- `command::writer::write_head` meets its contract: eight stores in a row.
-use Prim.Native.Nat.{_/_, _%_}
-use mathlib.Core.List.{[], _∷_}
+use mathlib.Core.List.{[]}
 use native.Mathlib.Omega.{arith}
 use lib.ListN.{length-set}
 use lib.Seq.{sets-eq}
 use denote.Ref.{now}
 use Rattle.message.specs.Bytes.{le16}
 use Rattle.message.specs.Writing.{placed}
-use Rattle.command.specs.Payload.{commandMark, payload}
+use Rattle.command.specs.Payload.{payload}
+use Rattle.command.specs.Promises.{fieldsOf}
 use borrow.Author.Needs.{needs}
 use Rattle.command.proofs.writer.write_head.Statement.{statement}
 use Rattle.command.proofs.writer.write_head.Tie as tie
@@ -49,9 +49,7 @@ returns : tie.Need-returns
 unfolding placed payload le16
 returns c =
     let a = c .before .before .args in
-    let f = a .fields in
-    let i = a .id .0 in
-    sets-eq (commandMark ∷ f .tc ∷ f .tid ∷ f .sid ∷ f .iid ∷ i % 256 ∷ i / 256 ∷ f .cid ∷ []) (now (a .part)) 0 (omega arith)
+    sets-eq (payload (fieldsOf (a .fields)) (a .id .0) []) (now (a .part)) 0 (omega arith)
 
 pub write-head-spec : {M : Type 1} → statement M
 write-head-spec =
