@@ -16,9 +16,9 @@ use Rattle.claims.specs.Trace.{isAccepted, endings, frames, liveAfter, requests
 use Rattle.claims.specs.ClockRule.{ClockRule}
 use Rattle.claims.specs.Resting.{restless, PolledAt}
 use Rattle.claims.specs.Hearing.{bytesTaken, lastReceive, HeardAs, HeardAll, HeardAlike}
-use Rattle.claims.specs.Clauses.{All, AllBelong, Fate, Few, DistinctIds, Unreserved, OutcomeClaims, Bounded}
+use Rattle.claims.specs.Clauses.{All, AllBelong, Fate, Few, DistinctIds, Unreserved, Bounded}
 use Rattle.claims.specs.PlainTerms.{QuietTime}
-use Rattle.claims.proofs.Laws.{three-are-few, outcome-claims-3, ends-in-time-3, quiet-time, polled-ends}
+use Rattle.claims.proofs.Laws.{three-are-few, quiet-time, polled-ends}
 use Rattle.claims.proofs.Runs.{run-agrees}
 use Rattle.endpoint.specs.Endpoint.{ledgerOf}
 use Rattle.endpoint.specs.Malformed.{malformed}
@@ -29,9 +29,11 @@ use Rattle.host_answers.specs.Promises.{Result, Refuses, Promise}
 use Rattle.host_answers.specs.Promises as promise
 use Rattle.host_answers.specs.declared.Opened as opening
 use Rattle.host_answers.specs.declared.Received as receiving
-use Rattle.host_claims.specs.Chains.{Chain, opens, goes-on}
+use Rattle.host_claims.specs.Chains.{Chain}
 use Rattle.host_claims.specs.Claims.{Demand3, Extends, Begins, Receipts}
-use Rattle.host_claims.proofs.Refining.{refines, past-of, opened-as, steps}
+use Rattle.host_claims.proofs.Refining.{refines, steps}
+use Rattle.host_claims.proofs.Extending as every
+use Rattle.host_claims.proofs.Witness as sample
 use Rattle.host_claims.proofs.Refused as refusing
 use Rattle.host_claims.proofs.Received as received
 use Rattle.host_claims.proofs.HeardCalls as heard
@@ -61,26 +63,20 @@ receives-items r e bytes reply buffer clock store exit replyExit bufferExit prom
 -- Demand 3: for every R, every list of calls from open on, and every endpoint and store that the calls hand on
 pub demand-3 : {given : ℕ} {first : opening.Opened} {calls : List Call} {outcomes : List Outcome} {e : Endpoint} {store : List ℕ}
     → Chain given first calls outcomes e store → Demand3 given first calls outcomes e store
-demand-3 {given} {first} {calls} {outcomes} {e} {store} chain =
-    let known = refines chain in
-    let past = past-of known in
-    record {
-      opened = opened-as chain;
-      answered = known .answered;
-      ledger = known .ledger;
-      sound = known .sound;
-      claims = subst (OutcomeClaims liveMax (reservedFor given)) past (outcome-claims-3 given calls);
-      inTime = subst (Bounded 12000) past (ends-in-time-3 given calls);
-    }
+demand-3 chain = every.demand-3 chain
 
 -- so a call that keeps its promise extends every list that ends in what it was handed, and open begins one: what the contracts of the
 -- four calls say
 pub extends : (e : Endpoint) (store : List ℕ) (c : Call) (r : Result) → Promise e store c r → Extends e store c r
-extends e store c r promised given first calls outcomes chain =
-    let longer = goes-on chain c r promised in record { list = longer; meets = demand-3 longer }
+extends e store c r promised = every.extends e store c r promised
 
 pub begins : (r : opening.Opened) (given : ℕ) → promise.Opened r given → Begins r given
-begins r given promised store = let list = opens store promised in record { list = list; meets = demand-3 list }
+begins r given promised = every.begins r given promised
+
+-- and there are such lists: one of eleven calls for R = 38, with every endpoint, store, answer and buffer written out, keeps the clock
+-- rule; its one request was sent once and has ended once
+pub witness : sample.Witnessed sample.calls sample.outcomes
+witness = sample.witnessed
 
 -- Demand 2 for every list of calls: the items of its accepted receives, with what is held in the end, are those of the bytes taken,
 -- joined, whatever submits, polls, refused calls and cuts stand between

@@ -1,4 +1,6 @@
 pub mod Refining
+pub mod Extending
+pub mod Witness
 pub mod Refused
 pub mod Received
 pub mod HeardCalls
