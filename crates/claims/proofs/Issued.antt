@@ -13,7 +13,7 @@ use Rattle.ledger.specs.Calls.{submit}
 use Rattle.ledger.specs.Refusals.{refusal}
 use Rattle.ledger.specs.Runs.{step, answersTo}
 use Rattle.ledger.specs.Changes.{FirstNotLive}
-use Rattle.ledger.proofs.Changes.{issued-first}
+use Rattle.ledger.proofs.Keeping.{issued-first}
 use Rattle.claims.specs.Clauses.{Enough}
 use Rattle.claims.proofs.Views.{has-room}
 use Rattle.claims.proofs.Fine.{Fine}

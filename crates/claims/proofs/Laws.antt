@@ -31,7 +31,7 @@ use Rattle.ledger.specs.ItemRuns.{itemRuns}
 use Rattle.ledger.specs.RefusalRuns.{refusalRuns}
 use Rattle.ledger.specs.KeptRuns.{keptRuns}
 use Rattle.ledger.specs.RequestRuns.{requestRuns}
-use Rattle.ledger.proofs.Changes as changes
+use Rattle.ledger.proofs.Keeping as keeping
 use Rattle.ledger.proofs.Refused as numbers
 use Rattle.ledger.proofs.Examples as examples
 use Rattle.claims.specs.Trace.{endings, liveAfter, requests}
@@ -112,19 +112,19 @@ issued-is-first limit enough given cs fields bytes wanted t id h =
 pub submit-changes : (limit : ℕ) (l : Ledger) (fields : Fields) (bytes : List ℕ) (wanted : Bool) (t id : ℕ)
     → step limit l (submit fields bytes wanted t) .answer ≡ submitted id
     → SubmitChanges l fields bytes wanted t id (step limit l (submit fields bytes wanted t) .next)
-submit-changes limit l fields bytes wanted t id h = changes.submit-changes limit l fields bytes wanted t id h
+submit-changes limit l fields bytes wanted t id h = keeping.submit-changes limit l fields bytes wanted t id h
 
 -- **Receive**: what an accepted one changes, and that all else stays. The last SEQ changes by a DATA_SEQ frame alone, and by every such
 pub receive-changes : (limit : ℕ) (l : Ledger) (bytes reply buffer : List ℕ) (t : ℕ) (r : Receipt)
     → step limit l (receive bytes reply buffer t) .answer ≡ received r
     → ReceiveChanges l bytes t r (step limit l (receive bytes reply buffer t) .next)
-receive-changes limit l bytes reply buffer t r h = changes.receive-changes limit l bytes reply buffer t r h
+receive-changes limit l bytes reply buffer t r h = keeping.receive-changes limit l bytes reply buffer t r h
 
 -- an ACK with the SEQ in flight: a request that wants a response waits from the reading of its ACK
 pub waits-from-its-ack : (l : Ledger) (t : ℕ) (b a : List Request) (q : Request) (f : Frame) (payload : List ℕ)
     → l .live ≡ b ++ (q ∷ a) → flights b ≡ 0 → q .state ≡ inFlight f → q .wanted ≡ true
     → onMessage l t ack (f .seq) payload .live ≡ b ++ (withState (waiting t) q ∷ a)
-waits-from-its-ack l t b a q f payload among alone flying wanted = changes.ack-waits l t b a q f payload among alone flying wanted
+waits-from-its-ack l t b a q f payload among alone flying wanted = keeping.ack-waits l t b a q f payload among alone flying wanted
 
 -- an ACK with another SEQ than that in flight is *stray*
 pub other-ack-is-stray : (l : Ledger) (t seq : ℕ) (payload : List ℕ)
@@ -148,7 +148,7 @@ response-matches-every-field l t payload x ends = faults.response-matches-every-
 -- **Poll**: what an accepted one changes, and that all else stays. The next SEQ changes by a first transmission alone, and by every such
 pub poll-changes : (limit : ℕ) (l : Ledger) (output : List ℕ) (t : ℕ) (p : Poll)
     → step limit l (poll output t) .answer ≡ polled p → PollChanges l t p (step limit l (poll output t) .next)
-poll-changes limit l output t p h = changes.poll-changes limit l output t p h
+poll-changes limit l output t p h = keeping.poll-changes limit l output t p h
 
 -- the oldest waiting request whose time is up ends first, whatever is due
 pub overdue-ends-first : (l : Ledger) (t : ℕ) (b a : List Request) (q : Request) (since : ℕ) → l .live ≡ b ++ (q ∷ a)

@@ -1,7 +1,7 @@
+pub mod Once
+pub mod Examples
 pub mod Cases
 pub mod States
 pub mod FreeId
-pub mod Changes
+pub mod Keeping
 pub mod Refused
-pub mod Examples
-pub mod Once

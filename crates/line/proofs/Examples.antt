@@ -6,7 +6,8 @@ use lib.ListN.{take}
 use Rattle.checksum.specs.Checksum.{withBit, withBits, bitsOf, checksumFrom, checksumOf}
 use Rattle.message.specs.Bytes.{ack, allowed}
 use Rattle.message.specs.Items.{damagedPayload, message, stands, dropped, rules, scan, payloadOf}
-use Rattle.line.specs.Cuts.{found, handedIn, handed}
+use Rattle.line.specs.Cuts.{found, handedIn, handed, handedEach}
+use Rattle.line.specs.Worked.{pieces, heard}
 use Rattle.line.specs.Receiving.{more, item, smallest, taken, receive}
 
 -- "ACK, SEQ 0"
@@ -43,3 +44,8 @@ pub example-lister : handed [] (case-3 ++ take 17 case-6)
     ≡ record { items = found (message ack 0 0) [] ∷ []; held = take 17 case-6 }
 unfolding handed handedIn receive taken smallest scan dropped stands rules payloadOf allowed checksumOf checksumFrom withBits withBit bitsOf
 example-lister = refl
+
+-- pieces by hand: the items and the held bytes that are written out
+pub worked : handedEach [] pieces ≡ heard
+unfolding handedEach handed handedIn receive taken smallest scan dropped stands rules payloadOf allowed checksumOf checksumFrom withBits withBit bitsOf
+worked = refl

@@ -9,9 +9,11 @@ use Rattle.message.specs.Bytes as bytes
 use Rattle.message.specs.Bytes.{maxLen, allowed}
 use Rattle.message.specs.Items.{message, scan}
 use Rattle.line.specs.Cuts.{Found, found, before, onAnswer, handed, handedEach, joined, goneIn, went}
+use Rattle.line.specs.Worked as worked
 use Rattle.line.specs.Receiving.{heldMax, decides, more, item, answered, receive}
 use Rattle.line.proofs.Bounds as bounds
 use Rattle.line.proofs.CallByCall as calls
+use Rattle.line.proofs.Examples as examples
 use Rattle.line.proofs.Got.{Removes}
 use Rattle.line.proofs.Got as got
 use Rattle.line.proofs.Handed as hand
@@ -56,6 +58,10 @@ cuts = hand.cuts
 pub cuts-from : (held piece : List ℕ) (pieces : List (List ℕ)) → handedEach held (piece ∷ pieces)
     ≡ handed held (joined (piece ∷ pieces))
 cuts-from = hand.each-joined
+
+-- one example by hand: noise, an ACK, a damaged message with a NAK right behind it, a forbidden header and a frame, in six pieces
+pub worked-example : handedEach [] worked.pieces ≡ worked.heard
+worked-example = examples.worked
 
 -- call by call: the bytes that a call takes decide as all of its bytes do
 pub taken-suffices : (held new : List ℕ) → receive held (take (receive held new .taken) new) ≡ receive held new

@@ -1,3 +1,4 @@
+pub mod Examples
 pub mod Smallest
 pub mod Joined
 pub mod Reach
@@ -15,4 +16,3 @@ pub mod CallByCall
 pub mod Bounds
 pub mod Pieces
 pub mod Laws
-pub mod Examples

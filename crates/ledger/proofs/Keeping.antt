@@ -1,4 +1,4 @@
--- Which parts of the ledger an accepted call may change: each call by its cases.
+-- Which parts of the ledger an accepted call may change, and that it keeps all others: each call by its cases.
 use Prim.Native.Nat.{ℕ, zero, suc, _+_, _<_}
 use mathlib.Core.Bool.{Bool, true, not, _&&_, cond as if}
 use mathlib.Core.List.{List, [], _∷_, _++_}
