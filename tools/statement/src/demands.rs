@@ -12,18 +12,20 @@ pub struct Demand {
 const CLAIMS: &str = "host_claims/proofs/Laws.antt";
 const MESSAGES: &str = "message/proofs/Laws.antt";
 const LINES: &str = "line/proofs/Laws.antt";
+const C_FUNCTIONS: &str = "c_api/proofs/Laws.antt";
 
 pub const DEMANDS: [Demand; 3] = [
     Demand {
         sentence: "Any bytes, clocks and buffers in any order: no call traps, each refusal comes exactly when the table says, and a \
                    refused call changes nothing.",
-        theorems: &[(CLAIMS, &["refused-where", "refused-only", "open-answers", "never-malformed"])],
+        theorems: &[(CLAIMS, &["refused-where", "refused-only", "refused-numbers", "open-answers", "never-malformed"])],
     },
     Demand {
         sentence: "Messages are those of the protocol text: what was written is read, what was read is written, and no cut of the bytes \
                    changes an item.",
         theorems: &[
             (MESSAGES, &["write-then-read", "read-then-write"]),
+            (C_FUNCTIONS, &["write-then-read", "read-then-write"]),
             (LINES, &["cuts", "cuts-from"]),
             (CLAIMS, &["receives-items", "heard-as-joined", "same-bytes-same-items"]),
         ],
@@ -33,7 +35,7 @@ pub const DEMANDS: [Demand; 3] = [
                    once, frames go out at most three times unchanged, and under the clock rule every request ends in time.",
         theorems: &[(
             CLAIMS,
-            &["demand-3", "extends", "begins", "at-most-once", "at-most-three-equal", "nobody-forgotten", "ends-while-polled"],
+            &["demand-3", "extends", "begins", "witness", "at-most-once", "at-most-three-equal", "nobody-forgotten", "ends-while-polled"],
         )],
     },
 ];
