@@ -16,7 +16,7 @@ use Rattle.command.specs.Payload.{Fields}
 use Rattle.link.specs.Frames.{Frame}
 use Rattle.ledger.specs.Parts.{liveMax, inFlight, waiting, Request, Ledger, withState}
 use Rattle.ledger.specs.Answers.{noResponse, stray, Ending, Receipt, Poll, quiet, refused, submitted, received, polled}
-use Rattle.ledger.specs.Numbers.{numbersOf, refusalAlone}
+use Rattle.ledger.specs.Numbers.{numbersOf, inOrder, refusalAlone, AllTell, tellings}
 use Rattle.ledger.specs.Submitting.{lastId, isLive, issued}
 use Rattle.ledger.specs.Receiving.{only, onData, onMessage, ackMessage}
 use Rattle.ledger.specs.Polling as polling
@@ -32,7 +32,7 @@ use Rattle.ledger.specs.RefusalRuns.{refusalRuns}
 use Rattle.ledger.specs.KeptRuns.{keptRuns}
 use Rattle.ledger.specs.RequestRuns.{requestRuns}
 use Rattle.ledger.proofs.Keeping as keeping
-use Rattle.ledger.proofs.Refused as numbers
+use Rattle.ledger.proofs.Numbering as numbers
 use Rattle.ledger.proofs.Examples as examples
 use Rattle.claims.specs.Trace.{endings, liveAfter, requests}
 use Rattle.claims.specs.ClockRule.{ClockRule}
@@ -302,8 +302,12 @@ refused-changes-nothing limit l c n h = refused.changes-nothing limit l c n h
 
 -- "Each hands back its number, taken count and any other number of the answer 0"
 pub refused-numbers : (limit : ℕ) (l : Ledger) (c : Call) (n : ℕ) → refusal limit l c ≡ some n
-    → numbersOf (step limit l c .answer) ≡ refusalAlone n
+    → inOrder (numbersOf (step limit l c .answer)) ≡ refusalAlone n
 refused-numbers limit l c n h = numbers.refused-numbers limit l c n h
+
+-- the numbers of one answer of each kind, written out
+pub numbers-told : AllTell tellings
+numbers-told = numbers.numbers-told
 
 -- "Bench examples", all fourteen as one table; and tables of runs for faults, items, refusals, what calls leave and requests
 pub bench-examples : AreTrue table

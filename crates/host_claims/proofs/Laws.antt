@@ -10,7 +10,7 @@ use lib.ListN.{take}
 use Rattle.line.specs.Receiving.{more}
 use Rattle.ledger.specs.Parts.{liveMax, Ledger}
 use Rattle.ledger.specs.Answers.{quiet, refused, polled}
-use Rattle.ledger.specs.Numbers.{numbersOf, refusalAlone}
+use Rattle.ledger.specs.Numbers.{numbersOf, inOrder, refusalAlone}
 use Rattle.ledger.specs.Calls.{Call, readingOf}
 use Rattle.ledger.specs.Runs.{open-for, reservedFor, step, Outcome, Entry, pastOf, Run}
 use Rattle.claims.specs.Trace.{isAccepted, endings, frames, liveAfter, requests}
@@ -52,7 +52,7 @@ refused-only e store c o promised n h = refusing.refused-only e store c o promis
 
 -- "taken count and any other number of the answer 0"
 pub refused-numbers : (e : Endpoint) (store : List ℕ) (c : Call) (o : Result) → Promise e store c o → (n : ℕ)
-    → refusalOf e store c ≡ some n → numbersOf (o .answer) ≡ refusalAlone n
+    → refusalOf e store c ≡ some n → inOrder (numbersOf (o .answer)) ≡ refusalAlone n
 refused-numbers e store c o promised n table = rw (refused-where e store c o promised n table .answers)
 
 -- open is refused where its line of the table says so

@@ -4,4 +4,4 @@ pub mod Cases
 pub mod States
 pub mod FreeId
 pub mod Keeping
-pub mod Refused
+pub mod Numbering
