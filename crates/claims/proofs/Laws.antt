@@ -16,7 +16,8 @@ use Rattle.command.specs.Payload.{Fields}
 use Rattle.link.specs.Frames.{Frame}
 use Rattle.ledger.specs.Parts.{liveMax, inFlight, waiting, Request, Ledger, withState}
 use Rattle.ledger.specs.Answers.{noResponse, stray, Ending, Receipt, Poll, quiet, refused, submitted, received, polled}
-use Rattle.ledger.specs.Numbers.{numbersOf, inOrder, refusalAlone, AllTell, tellings}
+use Rattle.ledger.specs.Numbers.{numbersOf, inOrder, refusalAlone}
+use Rattle.ledger.specs.NumberRows.{AllTell, tellings}
 use Rattle.ledger.specs.Submitting.{lastId, isLive, issued}
 use Rattle.ledger.specs.Receiving.{only, onData, onMessage, ackMessage}
 use Rattle.ledger.specs.Polling as polling

@@ -3,7 +3,8 @@ use Prim.Native.Nat.{ℕ}
 use mathlib.Core.Option.{some}
 use mathlib.Core.Path.{_≡_, refl}
 use Rattle.ledger.specs.Parts.{Ledger}
-use Rattle.ledger.specs.Numbers.{numbersOf, inOrder, refusalAlone, AllTell, tellings}
+use Rattle.ledger.specs.Numbers.{numbersOf, inOrder, refusalAlone}
+use Rattle.ledger.specs.NumberRows.{AllTell, tellings}
 use Rattle.ledger.specs.Calls.{Call}
 use Rattle.ledger.specs.Refusals.{refusal}
 use Rattle.ledger.specs.Runs.{step}

@@ -1,6 +1,7 @@
 pub mod Parts
 pub mod Answers
 pub mod Numbers
+pub mod NumberRows
 pub mod Submitting
 pub mod Receiving
 pub mod Polling
