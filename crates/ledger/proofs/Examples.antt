@@ -144,12 +144,13 @@ request-runs-once : AreTrueOnce requestRuns
 unfolding computed
 request-runs-once =
     (refl, refl, (refl, refl, (refl, (refl, refl, (refl, refl, refl)))))
-    also (refl, refl, (refl, refl, refl))
+    also (refl, refl, (refl, refl, (refl, refl, refl)))
     also (refl, refl, (refl, refl, (refl, (refl, refl, (refl, refl, (refl, refl, (refl, refl, refl)))))))
     also (refl, refl, (refl, refl, refl))
     also (refl, refl, refl)
     also (refl, refl, refl)
-    also (refl, (refl, refl, refl))
+    also (refl, refl, refl)
+    also (refl, (refl, refl, (refl, (refl, refl, refl))))
     also (refl, (refl, refl, refl))
     also (refl, (refl, refl, refl))
     also tt

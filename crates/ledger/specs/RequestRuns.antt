@@ -24,9 +24,13 @@ passedOver =
     ∷ submits [] 0 (submitted 43)
     ∷ []
 
--- data goes out in the frame
+-- data goes out in the frame, and again
 abbrev pub withData : List Row
-withData = submits bytes 0 (submitted 39) ∷ polls 0 (sent 20) (message dataSeq 0 (payload fields 39 bytes)) ∷ []
+withData =
+    submits bytes 0 (submitted 39)
+    ∷ polls 0 (sent 20) (message dataSeq 0 (payload fields 39 bytes))
+    ∷ polls 1000 (sent 20) (message dataSeq 0 (payload fields 39 bytes))
+    ∷ []
 
 -- a request that wants a response, an ACK 700 ms after its frame, and the response's deadline
 abbrev pub ackLater : List Row
@@ -47,12 +51,12 @@ olderFirst = polls 3000 (ended (endsBy 39 noResponse)) [] ∷ polls 3000 (ended 
 abbrev pub unwanting : (id : ℕ) → State → Request
 unwanting id s = record { id = id; fields = fields; bytes = []; wanted = false; state = s }
 
--- a response to request 40: it ends, or nobody matches
+-- a response to request 40, which ends, in a frame of SEQ 6; and one that nobody matches, by its RQID, in a frame of SEQ 5
 abbrev pub answered : Row
-answered = hears 5 answering 40 (answer.Word.response (told answering 40)) (some (endsBy 40 answer.Cause.response)) bytes
+answered = hears 6 answering 40 (answer.Word.response (told answering 40)) (some (endsBy 40 answer.Cause.response)) bytes
 
-abbrev pub unanswered : Row
-unanswered = hears 5 answering 40 (unmatched (told answering 40)) none []
+abbrev pub unanswered : (id : ℕ) → Row
+unanswered id = hears 5 answering id (unmatched (told answering id)) none []
 
 abbrev pub requestRuns : List Example
 requestRuns =
@@ -67,8 +71,10 @@ requestRuns =
     -- "to the earliest such deadline": that of the one in flight, whichever is older
     ∷ calls (with-live 0 (request 39 (waiting 0) ∷ request 40 (flying 0) ∷ [])) (polls 0 (quiet (some 1000)) [] ∷ []) 0
     ∷ calls (with-live 0 (request 39 (flying 0) ∷ request 40 (waiting 0) ∷ [])) (polls 0 (quiet (some 1000)) [] ∷ []) 0
-    -- "A request in flight or waiting that wants a response": waiting; but not queued, and not one that wants none
-    ∷ calls (with-live 0 (request 40 (waiting 0) ∷ [])) (answered ∷ []) 0
-    ∷ calls (with-live 0 (request 40 queued ∷ [])) (unanswered ∷ []) 0
-    ∷ calls (with-live 0 (unwanting 40 (flying 0) ∷ [])) (unanswered ∷ []) 0
+    -- a queued one has none
+    ∷ calls (with-live 0 (request 39 queued ∷ request 40 (flying 0) ∷ [])) (polls 0 (quiet (some 1000)) [] ∷ []) 0
+    -- "A request in flight or waiting that wants a response": waiting; but not queued, and not one that wants none; "with equal RQID"
+    ∷ calls (with-live 0 (request 40 (waiting 0) ∷ [])) (unanswered 41 ∷ answered ∷ []) 0
+    ∷ calls (with-live 0 (request 40 queued ∷ [])) (unanswered 40 ∷ []) 0
+    ∷ calls (with-live 0 (unwanting 40 (flying 0) ∷ [])) (unanswered 40 ∷ []) 0
     ∷ []
