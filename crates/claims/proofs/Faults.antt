@@ -13,19 +13,20 @@ use Rattle.message.specs.Items.{damagedPayload, decided, scan}
 use Rattle.message.proofs.Laws.{damaged-payload-removes-syn}
 use Rattle.command.specs.Payload.{isCommand, fieldsIn, rqidIn, dataIn, answers}
 use Rattle.message.proofs.Headers.{both}
-use Rattle.link.specs.Frames.{Frame, acknowledgedBy, withMark}
+use Rattle.link.specs.SequenceIds.{seqAfter}
+use Rattle.link.specs.Frames.{Frame, firstSent, acknowledgedBy, withMark}
 use Rattle.ledger.specs.Parts.{State, queued, inFlight, waiting, Request, Ledger, withState, Search, nobody, somebody, oldest}
 use Rattle.ledger.specs.Answers as answer
 use Rattle.ledger.specs.Answers.{stray, Ending, noResponse}
 use Rattle.ledger.specs.Receiving as receiving
 use Rattle.ledger.specs.Receiving.{only, flies, provided, acknowledgedIn, onAck, onNak, isSent, matches, commandIn, onResponse, onData, onMessage, ackMessage}
 use Rattle.ledger.specs.Polling as polling
-use Rattle.ledger.specs.Polling.{responseTime, overdueIn}
+use Rattle.ledger.specs.Polling.{responseTime, overdueIn, queuedIn}
 use Rattle.claims.specs.Clauses.{All}
 use Rattle.claims.specs.PlainTerms.{transmissionsIn, counts, Matched}
 use Rattle.ledger.proofs.Cases.{by-test}
 use Rattle.claims.proofs.Lists.{all-right}
-use Rattle.claims.proofs.Searches.{Looked, one-shows, look, find-oldest}
+use Rattle.claims.proofs.Searches.{Looked, one-shows, look, find-oldest, find-nobody}
 
 -- 1. "An ACK for an older SEQ ending the frame now in flight.": an ACK with another SEQ than that in flight does nothing
 module _ (l : Ledger) (t seq : ℕ) (payload : List ℕ) where
@@ -168,3 +169,22 @@ overdue-ends-first l t b a q since among waits late none-before = rw (oldest-her
 
     oldest-here : l .live ≡ b ++ (q ∷ a) → oldest (λ x. overdueIn t (x .state)) (l .live) ≡ somebody b q tt a
     oldest-here e = rw e (find b none-before)
+
+-- Poll's step 3: where none is overdue and none in flight, the oldest queued request is sent, with the next SEQ
+pub oldest-queued-is-sent : (l : Ledger) (t : ℕ) (b a : List Request) (q : Request) → l .live ≡ b ++ (q ∷ a) → q .state ≡ queued
+    → All (λ x. overdueIn t (x .state) ≡ none) (l .live) → All (λ x. flies x ≡ none) (l .live)
+    → All (λ x. queuedIn (x .state) ≡ none) b
+    → polling.act l t ≡ polling.sends l t (firstSent (l .nextSeq) t) (seqAfter (l .nextSeq)) b q a
+unfolding polling.act
+oldest-queued-is-sent l t b a q among waits current free none-before =
+    rw (
+      find-nobody (λ x. overdueIn t (x .state)) (l .live) current,
+      find-nobody flies (l .live) free,
+      queue among,
+    )
+  where
+    shown : queuedIn (q .state) ≡ some tt
+    shown = rw waits
+
+    queue : l .live ≡ b ++ (q ∷ a) → oldest (λ x. queuedIn (x .state)) (l .live) ≡ somebody b q tt a
+    queue e = rw e (find-oldest (λ x. queuedIn (x .state)) b a q shown none-before)

@@ -13,15 +13,16 @@ use Rattle.message.specs.Items.{damagedHeader, forbidden, damagedPayload, decid
 use Rattle.message.proofs.Laws as messages
 use Rattle.line.specs.Receiving.{more}
 use Rattle.command.specs.Payload.{Fields}
-use Rattle.link.specs.Frames.{Frame}
-use Rattle.ledger.specs.Parts.{liveMax, inFlight, waiting, Request, Ledger, withState}
+use Rattle.link.specs.SequenceIds.{seqAfter}
+use Rattle.link.specs.Frames.{Frame, firstSent}
+use Rattle.ledger.specs.Parts.{liveMax, queued, inFlight, waiting, Request, Ledger, withState}
 use Rattle.ledger.specs.Answers.{noResponse, stray, Ending, Receipt, Poll, quiet, refused, submitted, received, polled}
 use Rattle.ledger.specs.Numbers.{numbersOf, inOrder, refusalAlone}
 use Rattle.ledger.specs.NumberRows.{AllTell, tellings}
 use Rattle.ledger.specs.Submitting.{lastId, isLive, issued}
-use Rattle.ledger.specs.Receiving.{only, onData, onMessage, ackMessage}
+use Rattle.ledger.specs.Receiving.{flies, only, onData, onMessage, ackMessage}
 use Rattle.ledger.specs.Polling as polling
-use Rattle.ledger.specs.Polling.{responseTime, overdueIn}
+use Rattle.ledger.specs.Polling.{responseTime, overdueIn, queuedIn}
 use Rattle.ledger.specs.Calls.{Call, submit, receive, poll, readingOf, lentBy}
 use Rattle.ledger.specs.Refusals.{flights, malformed, refusal}
 use Rattle.ledger.specs.Runs.{step, outcomesOf, Entry, Run, start, reservedFor, run}
@@ -158,6 +159,14 @@ pub overdue-ends-first : (l : Ledger) (t : ℕ) (b a : List Request) (q : Reques
 overdue-ends-first l t b a q since among waits late none-before =
     faults.overdue-ends-first l t b a q since among waits late none-before
 
+-- then the frame in flight; and where none is, the oldest queued request is sent, with the next SEQ
+pub oldest-queued-is-sent : (l : Ledger) (t : ℕ) (b a : List Request) (q : Request) → l .live ≡ b ++ (q ∷ a) → q .state ≡ queued
+    → All (λ x. overdueIn t (x .state) ≡ none) (l .live) → All (λ x. flies x ≡ none) (l .live)
+    → All (λ x. queuedIn (x .state) ≡ none) b
+    → polling.act l t ≡ polling.sends l t (firstSent (l .nextSeq) t) (seqAfter (l .nextSeq)) b q a
+oldest-queued-is-sent l t b a q among waits current free none-before =
+    faults.oldest-queued-is-sent l t b a q among waits current free none-before
+
 -- *quiet* is answered only where there is nothing to do
 pub quiet-when-nothing-to-do : (limit : ℕ) (l : Ledger) (c : Call) (time : Option ℕ) → step limit l c .answer ≡ polled (quiet time)
     → NothingToDo (readingOf c) (l .live)
@@ -273,7 +282,7 @@ pub claims-after-every-call : (limit : ℕ) → Enough limit → (given : ℕ) (
 claims-after-every-call limit enough given cs =
     after-every-call limit given (λ s. OutcomeClaims limit (reservedFor given) (s .past)) (outcome-claims limit enough given) cs
 
--- both for the number of document 01, three
+-- all of this for the number of document 01, three
 pub three-are-few : Enough liveMax
 three-are-few = omega arith
 

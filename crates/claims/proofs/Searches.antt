@@ -26,3 +26,10 @@ pub find-oldest : {A : Type 0} (shows : Request → Option A) (b a : List Reques
 unfolding oldest
 find-oldest shows [] a q shown h = rw shown
 find-oldest shows (x ∷ b) a q shown h = rw (h .0, find-oldest shows b a q shown (h .1))
+
+-- and where none shows it, nobody is
+pub find-nobody : {A : Type 0} (shows : Request → Option A) (live : List Request) → All (λ x. shows x ≡ none) live
+    → oldest shows live ≡ nobody
+unfolding oldest
+find-nobody shows [] h = refl
+find-nobody shows (x ∷ live) h = rw (h .0, find-nobody shows live (h .1))
