@@ -4,8 +4,9 @@ use Prim.Native.Nat.{ℕ}
 use mathlib.Core.List.{List, [], _++_}
 use mathlib.Core.Path.{_≡_}
 use Rattle.message.specs.Items.{Item}
-use Rattle.listing.specs.Waiting.{linesOf, writesAfter, waitsAfter, itemsIn, Standing, fresh, listed, writesIn}
-use Rattle.listing.proofs.Joining as joining
+use Rattle.listing_lines.specs.Waiting.{linesOf, writesAfter, waitsAfter}
+use Rattle.listing_lines.proofs.Joining as joining
+use Rattle.listing.specs.Standing.{itemsIn, Standing, fresh, listed, writesIn}
 use Rattle.listing.proofs.Onward as onward
 
 -- "a line an item": what is written while the lines of some items join and what waits then are together those that waited before and a

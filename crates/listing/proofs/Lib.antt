@@ -1,5 +1,3 @@
-pub mod Putting
-pub mod Joining
 pub mod Turn
 pub mod Onward
 pub mod Laws

@@ -8,8 +8,9 @@ use Rattle.message.specs.Items.{Item}
 use Rattle.line.specs.Cuts.{Found, found, handedEach, joined}
 use Rattle.line.proofs.Handed.{handed-joined}
 use Rattle.line.proofs.Laws.{cuts}
+use Rattle.listing_lines.specs.Waiting.{writes, waits, writesAfter, waitsAfter}
 use Rattle.listing.specs.Promises.{ListsPiece, ListsSome, ListsAll}
-use Rattle.listing.specs.Waiting.{writes, waits, writesAfter, waitsAfter, itemsOf, Standing, fresh, listed, writesIn}
+use Rattle.listing.specs.Standing.{itemsOf, Standing, fresh, listed, writesIn}
 use Rattle.listing.specs.declared.Next.{Next}
 use Rattle.listing.specs.declared.Next.the-variants.{Read, End, ReadFailed, WriteFailed}
 

@@ -19,10 +19,12 @@ use Rattle.line.specs.declared.Answer.the-variants.{More, One}
 use Rattle.line.specs.declared.Received.{Received}
 use Rattle.line.proofs.Laws.{item-removes, message-short, handed-more, handed-item}
 use Rattle.listing_words.specs.Words.{decimalLimit}
-use Rattle.listing.specs.Promises.{Adds, Fails}
-use Rattle.listing.specs.Text.{lineRoom, lenOf}
-use Rattle.listing.specs.Waiting.{hasRoom, writes, waits, writesAfter, waitsAfter, itemsOf, Standing, listed, writesIn}
-use Rattle.listing.specs.declared.sheet.Sheet.{Sheet}
+use Rattle.listing_lines.specs.Promises.{Adds}
+use Rattle.listing_lines.specs.Text.{lineRoom, lenOf}
+use Rattle.listing_lines.specs.Waiting.{hasRoom, writes, waits, writesAfter, waitsAfter}
+use Rattle.listing_lines.specs.declared.Sheet.{Sheet}
+use Rattle.listing.specs.Promises.{Fails}
+use Rattle.listing.specs.Standing.{itemsOf, Standing, listed, writesIn}
 
 -- where there is no room, all that waits is written
 writes-all : (room : ℕ) (waiting : List ℕ) → hasRoom room waiting ≡ false → writes room waiting ≡ waiting

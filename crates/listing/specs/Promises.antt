@@ -1,25 +1,12 @@
 -- What the functions promise, by the cases of what they answer. No contract says what a program reads or writes: so they speak of what
 -- waits and of what is held.
-use Prim.Native.Nat.{ℕ, _≤_, _<_}
-use mathlib.Core.Bool.{Bool, true, false}
+use Prim.Native.Nat.{ℕ, _<_}
 use mathlib.Core.List.{List, []}
 use mathlib.Core.Path.{_≡_}
 use lib.ListN.{length, take}
-use Rattle.message.specs.Items.{Item}
-use Rattle.listing.specs.Waiting.{hasRoom, waits, Standing, fresh, listed, writesIn}
-use Rattle.listing.specs.declared.sheet.Sheet.{Sheet}
+use Rattle.listing.specs.Standing.{Standing, fresh, listed, writesIn}
 use Rattle.listing.specs.declared.Next.{Next}
 use Rattle.listing.specs.declared.Next.the-variants.{Read, End, ReadFailed, WriteFailed}
-
--- what `add_line` promises of the lines that wait in a buffer of so much room, and of its contents at exit: the line has joined them; or
--- a write failed, which is tried only where there is no room, and nothing waits
-abbrev pub Joins : (fine : Bool) (used room : ℕ) (waiting : List ℕ) → Item → (exit : List ℕ) → Type 0
-Joins true used room waiting item exit = take used exit ≡ waits room waiting item
-Joins false used room waiting item exit = (hasRoom room waiting ≡ false) × (used ≡ 0)
-
-pub record Adds (r : Sheet) (room : ℕ) (waiting : List ℕ) (item : Item) (exit : List ℕ) : Type 0 where
-  pub within : r .used ≤ length exit
-  pub joins : Joins (r .fine) (r .used) room waiting item exit
 
 -- how far a listing is, from the counts of what waits at the front of the buffer and of what is held at the front of the array
 abbrev pub standing : (used count : ℕ) (buffer array : List ℕ) → Standing

@@ -1,20 +1,18 @@
 // The capture lister (document 01, "Capture lister"): standard input to its end, a line an item, in constant memory.
-mod lines; // an item as a line of text
-mod sheet; // lines to standard output, many at a time
-
-ghost use Prim.Native.Nat.{_≤_};
+ghost use Prim.Native.Nat.{_≤_, _<_};
 ghost use lib.ListN.{length};
 ghost use Rattle.line.specs.Receiving.{heldMax};
+ghost use Rattle.listing_words.specs.Words.{decimalLimit};
+ghost use Rattle.listing_lines.specs.Text.{lineRoom};
 ghost use Rattle.listing.specs.Promises.{standing, ListsPiece, ListsSome, ListsAll};
-ghost use Rattle.listing.specs.Text.{lineRoom};
-use crate::sheet::add_line;
-use crate::sheet::end_sheet;
 use libc::STDERR_FILENO;
 use libc::STDIN_FILENO;
 use libc::STDOUT_FILENO;
 use line::Answer;
 use line::HELD_MAX;
 use line_receiving::receive;
+use listing_lines::add_line;
+use listing_lines::text::put_end;
 
 // How far the listing is: the bytes that the line holds, the bytes of lines that wait, and what comes next.
 struct Listing {
@@ -159,6 +157,17 @@ fn finish(out: &mut [u8], listing: Listing)
         }
         Next::WriteFailed => say(b"lister: writing standard output failed\n"),
     }
+}
+
+// All lines that wait are written, and the last one behind them. Answers whether every write was taken whole.
+fn end_sheet(out: &mut [u8], used: usize, held: usize) -> bool
+    requires { ⌜ (used ≤ length (now out)) × (lineRoom ≤ length (now out)) × (held < decimalLimit) ⌝ }
+{
+    if !io::write_all(STDOUT_FILENO, &out[..used]) {
+        return false;
+    }
+    let end = put_end(out, 0, held);
+    io::write_all(STDOUT_FILENO, &out[..end])
 }
 
 fn say(text: &[u8]) {

@@ -1,5 +1,5 @@
 // The words and numbers of a listing (document 01, "Capture lister"), each put behind the first `at` bytes of a lent buffer: for
-// `listing`, which makes lines of them. Each answers where it ends.
+// `listing_lines`, which makes lines of them. Each answers where it ends.
 ghost use mathlib.Core.Path.{_≡_};
 ghost use mathlib.Core.List.{_∷_, [], _++_};
 ghost use Prim.Native.Nat.{_+_, _≤_, _<_};
@@ -9,7 +9,7 @@ use message::header::ACK;
 use message::header::DATA_SEQ;
 use message::header::NAK;
 
-// The word of a message's TYPE, and a space. Public for `listing`.
+// The word of a message's TYPE, and a space. Public for `listing_lines`.
 // Ruled out: the words of DATA_SEQ and DATA_NSQ exchanged, and a word without its space.
 pub fn put_word(out: &mut [u8], at: usize, kind: u8) -> usize
     requires { ⌜ at + 4 ≤ length (now out) ⌝ }
@@ -27,7 +27,7 @@ pub fn put_word(out: &mut [u8], at: usize, kind: u8) -> usize
     put(out, at, b"NSQ ")
 }
 
-// A number in decimal. Public for `listing`.
+// A number in decimal. Public for `listing_lines`.
 // Ruled out: leading zeros, and 256 as 556.
 pub fn put_decimal(out: &mut [u8], at: usize, n: usize) -> usize
     requires { ⌜ (at + 3 ≤ length (now out)) × (n < decimalLimit) ⌝ }
@@ -53,7 +53,7 @@ fn put_digit(out: &mut [u8], at: usize, digit: usize) -> usize
     at + 1
 }
 
-// Bytes as they stand. Public for `listing`.
+// Bytes as they stand. Public for `listing_lines`.
 // Ruled out: a last byte that is left out, and bytes before them that change.
 pub fn put(out: &mut [u8], at: usize, bytes: &[u8]) -> usize
     requires { ⌜ at + length (now bytes) ≤ length (now out) ⌝ }

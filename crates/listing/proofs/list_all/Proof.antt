@@ -6,8 +6,8 @@ use native.Mathlib.Omega.{arith}
 use lib.ListN.{length}
 use borrow.Author.Needs.{needs}
 use Rattle.line.specs.Receiving.{heldMax}
+use Rattle.listing_lines.specs.Text.{lineRoom}
 use Rattle.listing.specs.Promises.{standing, ListsAll}
-use Rattle.listing.specs.Text.{lineRoom}
 use Rattle.listing.specs.declared.Next.the-variants.{Read}
 use Rattle.listing.proofs.Onward.{listed-none, onward}
 use Rattle.listing.proofs.list_all.Statement.{statement}

@@ -7,8 +7,8 @@ use lib.ListN.{length, length-take, length-drop}
 use borrow.Author.Needs.{needs}
 use borrow.Author.Tests.{not-true, not-false}
 use Rattle.line.specs.Receiving.{heldMax}
+use Rattle.listing_lines.specs.Text.{lineRoom}
 use Rattle.listing.specs.Promises.{standing}
-use Rattle.listing.specs.Text.{lineRoom}
 use Rattle.listing.proofs.Turn.{Left, removes, left-next, left-fails, listed-more, short, counted}
 use Rattle.listing.proofs.list_piece.Statement.{statement}
 use Rattle.listing.proofs.list_piece.Tie as tie

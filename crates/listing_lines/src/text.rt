@@ -6,7 +6,7 @@ ghost use lib.ListN.{length, take};
 ghost use Rattle.message.specs.Items.{message as frame};
 ghost use Rattle.message.specs.Promises.{itemOf};
 ghost use Rattle.listing_words.specs.Words.{decimalLimit};
-ghost use Rattle.listing.specs.Text.{lineOf, endOf, lineRoom, lenOf};
+ghost use Rattle.listing_lines.specs.Text.{lineOf, endOf, lineRoom, lenOf};
 use listing_words::put;
 use listing_words::put_decimal;
 use listing_words::put_word;
@@ -41,8 +41,9 @@ fn put_message(out: &mut [u8], at: usize, kind: u8, seq: u8, len: usize) -> usiz
     put(out, second, b"\n")
 }
 
-// The last line: `end` and the held count.
-pub(crate) fn put_end(out: &mut [u8], at: usize, held: usize) -> usize
+// The last line: `end` and the held count. Public for `listing`.
+// Ruled out: a count without its line's end, and bytes before it that change.
+pub fn put_end(out: &mut [u8], at: usize, held: usize) -> usize
     requires { ⌜ (at + lineRoom ≤ length (now out)) × (held < decimalLimit) ⌝ }
     ensures { λ r. ⌜ (r ≤ length (now (out .exit))) × (take r (now (out .exit)) ≡ take at (now (out .entry)) ++ endOf held) ⌝ }
 {

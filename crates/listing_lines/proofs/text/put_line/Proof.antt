@@ -1,9 +1,9 @@
--- `listing::lines::put_line` meets its contract: by the item that was told.
+-- `listing_lines::text::put_line` meets its contract: by the item that was told.
 use native.Mathlib.Omega.{arith}
 use borrow.Author.Needs.{needs}
-use Rattle.listing.specs.Text.{lineOf}
-use Rattle.listing.proofs.lines.put_line.Statement.{statement}
-use Rattle.listing.proofs.lines.put_line.Tie as tie
+use Rattle.listing_lines.specs.Text.{lineOf}
+use Rattle.listing_lines.proofs.text.put_line.Statement.{statement}
+use Rattle.listing_lines.proofs.text.put_line.Tie as tie
 
 enum-told : tie.Need-enum-told
 enum-told c = search needs

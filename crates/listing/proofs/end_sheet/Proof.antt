@@ -1,10 +1,10 @@
--- `listing::sheet::end_sheet` is safe: what is written lies within the buffer.
+-- `listing::end_sheet` is safe: what is written lies within the buffer.
 use mathlib.Core.Path.{sym}
 use native.Mathlib.Omega.{arith}
 use lib.Seq.{length-take-le}
 use borrow.Author.Needs.{needs}
-use Rattle.listing.proofs.sheet.end_sheet.Statement.{statement}
-use Rattle.listing.proofs.sheet.end_sheet.Tie as tie
+use Rattle.listing.proofs.end_sheet.Statement.{statement}
+use Rattle.listing.proofs.end_sheet.Tie as tie
 
 slice-reshare-prefix-write-all : tie.Need-slice-reshare-prefix-write-all
 slice-reshare-prefix-write-all c = search needs

@@ -4,7 +4,7 @@ use mathlib.Core.List.{List, _++_, append-assoc}
 use mathlib.Core.Path.{_≡_}
 use Rattle.message.specs.Items.{message}
 use Rattle.listing_words.specs.Words.{ascii, decimal, word}
-use Rattle.listing.specs.Text.{lineOf, endOf}
+use Rattle.listing_lines.specs.Text.{lineOf, endOf}
 
 -- the lines made of several parts
 pub message-line : (first : List ℕ) (type seq len : ℕ) {a b c d e : List ℕ} → a ≡ first ++ word type → b ≡ a ++ decimal seq

@@ -1,11 +1,11 @@
--- `listing::lines::put_end` meets its contract: the word, the count and the line's end, one behind the other.
+-- `listing_lines::text::put_end` meets its contract: the word, the count and the line's end, one behind the other.
 use native.Mathlib.Omega.{arith}
 use lib.ListN.{take}
 use borrow.Author.Needs.{needs}
 use denote.Ref.{now}
-use Rattle.listing.proofs.Putting.{end-line}
-use Rattle.listing.proofs.lines.put_end.Statement.{statement}
-use Rattle.listing.proofs.lines.put_end.Tie as tie
+use Rattle.listing_lines.proofs.Putting.{end-line}
+use Rattle.listing_lines.proofs.text.put_end.Statement.{statement}
+use Rattle.listing_lines.proofs.text.put_end.Tie as tie
 
 slice-aggregate-put : tie.Need-slice-aggregate-put
 slice-aggregate-put c = search needs

@@ -1,14 +1,14 @@
--- `listing::sheet::add_line` meets its contract: by whether there is room, what `put_line` puts behind those that wait or alone.
+-- `listing_lines::add_line` meets its contract: by whether there is room, what `put_line` puts behind those that wait or alone.
 use mathlib.Core.Path.{refl, sym}
 use native.Mathlib.Omega.{arith}
 use lib.ListN.{length}
 use lib.Seq.{length-take-le}
 use borrow.Author.Needs.{needs}
 use denote.Ref.{now}
-use Rattle.listing.specs.Waiting.{waits}
-use Rattle.listing.proofs.Joining.{has-room, no-room}
-use Rattle.listing.proofs.sheet.add_line.Statement.{statement}
-use Rattle.listing.proofs.sheet.add_line.Tie as tie
+use Rattle.listing_lines.specs.Waiting.{waits}
+use Rattle.listing_lines.proofs.Joining.{has-room, no-room}
+use Rattle.listing_lines.proofs.add_line.Statement.{statement}
+use Rattle.listing_lines.proofs.add_line.Tie as tie
 
 sub-if1 : tie.Need-sub-if1
 sub-if1 c = search needs

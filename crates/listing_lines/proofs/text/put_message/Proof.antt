@@ -1,11 +1,11 @@
--- `listing::lines::put_message` meets its contract: word, SEQ, LEN and the line's end, one behind the other.
+-- `listing_lines::text::put_message` meets its contract: word, SEQ, LEN and the line's end, one behind the other.
 use native.Mathlib.Omega.{arith}
 use lib.ListN.{take}
 use borrow.Author.Needs.{needs}
 use denote.Ref.{now}
-use Rattle.listing.proofs.Putting.{message-line}
-use Rattle.listing.proofs.lines.put_message.Statement.{statement}
-use Rattle.listing.proofs.lines.put_message.Tie as tie
+use Rattle.listing_lines.proofs.Putting.{message-line}
+use Rattle.listing_lines.proofs.text.put_message.Statement.{statement}
+use Rattle.listing_lines.proofs.text.put_message.Tie as tie
 
 put-word-requires : tie.Need-put-word-requires
 put-word-requires c κs = search needs

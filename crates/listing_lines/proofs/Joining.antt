@@ -7,8 +7,8 @@ use lib.ListN.{length, take}
 use lib.Seq.{length-take-le}
 use borrow.Author.Tests.{le-leb, lt-leb}
 use Rattle.message.specs.Items.{Item}
-use Rattle.listing.specs.Text.{lineOf, lineRoom}
-use Rattle.listing.specs.Waiting.{linesOf, hasRoom, writes, waits, writesAfter, waitsAfter}
+use Rattle.listing_lines.specs.Text.{lineOf, lineRoom}
+use Rattle.listing_lines.specs.Waiting.{linesOf, hasRoom, writes, waits, writesAfter, waitsAfter}
 
 module _ (room used : ℕ) (buffer : List ℕ) (within : used ≤ length buffer) where
   pub has-room : used + lineRoom ≤ room → hasRoom room (take used buffer) ≡ true
