@@ -1,8 +1,2 @@
-pub mod Calls
-pub mod Polls
-pub mod Receives
-pub mod AskedOnce
-pub mod HeardResponse
-pub mod NeverHeard
 pub mod TwoRequests
 pub mod Witness

@@ -25,13 +25,14 @@ use Rattle.ledger.proofs.Cases.{by-test}
 use Rattle.host_answers.specs.Promises as promise
 use Rattle.host_answers.specs.declared.Opened as opening
 use Rattle.host_claims.specs.Claims.{Begins}
-use Rattle.client.specs.Exchange.{Case, frameFor, Handed, rows, callsIn, outcomesIn, Exchanges}
-use Rattle.client.specs.Parts.{Asks, Hears, GivesUp}
-use Rattle.client.specs.declared.Readings.{Readings}
-use Rattle.client.specs.declared.Asked.{Asked}
-use Rattle.client.specs.declared.Heard.{Heard}
-use Rattle.client.specs.declared.GivenUp.{GivenUp}
-use Rattle.client.proofs.AskedOnce.{frame-room}
+use Rattle.client_parts.specs.Answers.{frameFor}
+use Rattle.client_parts.specs.Parts.{Asks, Hears, GivesUp}
+use Rattle.client_parts.specs.declared.Readings.{Readings}
+use Rattle.client_parts.specs.declared.Asked.{Asked}
+use Rattle.client_parts.specs.declared.Heard.{Heard}
+use Rattle.client_parts.specs.declared.GivenUp.{GivenUp}
+use Rattle.client_parts.proofs.AskedOnce.{frame-room}
+use Rattle.client.specs.Exchange.{Case, Handed, rows, callsIn, outcomesIn, Exchanges}
 
 -- what open hands back: a fresh ledger, with an R of 255 at most
 record Fresh (l : Ledger) : Type 0 where

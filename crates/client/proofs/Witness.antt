@@ -10,7 +10,8 @@ use Rattle.command.specs.Payload.{Fields, maxData, payload, answers}
 use Rattle.command.proofs.Laws.{length-payload}
 use Rattle.ledger.specs.Receiving.{ackMessage}
 use Rattle.ledger.specs.Refusals.{firstOf}
-use Rattle.client.specs.Exchange.{Case, frameFor, Handed}
+use Rattle.client_parts.specs.Answers.{frameFor}
+use Rattle.client.specs.Exchange.{Case, Handed}
 
 abbrev asked : Fields
 asked = record { tc = 2; tid = 1; sid = 0; iid = 1; cid = 13 }

@@ -1,18 +1,16 @@
--- What the client is handed, and what it gets: its calls, one a row, each with its answer and the lent buffers afterwards.
+-- What the client is handed, and what it gets: its calls, one a row, each with its answer and the lent buffers afterwards. The frame of a
+-- request, and what the receives answer, stand in `client_parts/specs/Answers.antt`.
 use Prim.Native.Nat.{ℕ, suc, _+_, _≤_, _<_}
 use mathlib.Core.Bool.{true}
 use mathlib.Core.List.{List, [], _∷_, _++_, map}
-use mathlib.Core.Option.{none, some}
+use mathlib.Core.Option.{some}
 use mathlib.Core.Path.{_≡_}
 use lib.ListN.{length}
-use Rattle.message.specs.Bytes.{message, total, maxLen, ack, dataSeq}
-use Rattle.message.specs.Items as items
+use Rattle.message.specs.Bytes.{total, maxLen}
 use Rattle.message.specs.Writing.{placed}
-use Rattle.line.specs.Receiving.{more, item}
-use Rattle.command.specs.Payload.{Fields, headLength, maxData, payload, answers}
+use Rattle.command.specs.Payload.{Fields, maxData, answers}
 use Rattle.link.specs.Frames.{resendTime}
-use Rattle.ledger.specs.Answers as word
-use Rattle.ledger.specs.Answers.{noAcknowledgement, noWord, Poll, sent, ended, quiet, Receipt, Answer, submitted, received, polled}
+use Rattle.ledger.specs.Answers.{noAcknowledgement, Poll, sent, ended, quiet, Receipt, Answer, submitted, received, polled}
 use Rattle.ledger.specs.Receiving.{ackMessage}
 use Rattle.ledger.specs.Calls.{Call, submit, receive, poll}
 use Rattle.ledger.specs.Runs.{open-for, reservedFor, Outcome, Entry, pastOf}
@@ -20,7 +18,8 @@ use Rattle.claims.specs.ClockRule.{ClockRule}
 use Rattle.host_answers.specs.Answers.{openAnswerOf, submitAnswerOf, receiveAnswerOf, pollAnswerOf}
 use Rattle.host_answers.specs.declared.Opened as opening
 use Rattle.host_claims.specs.Claims.{Demand3}
-use Rattle.client.specs.declared.Readings.{Readings}
+use Rattle.client_parts.specs.Answers.{frameFor, toAck, toFirst, toSecond}
+use Rattle.client_parts.specs.declared.Readings.{Readings}
 use Rattle.client.specs.declared.Report.{Report}
 
 -- a case: R; the fields and the data of both requests; the response's fields, SEQ and data, and the two pieces in which it arrives; the
@@ -51,10 +50,6 @@ firstId k = suc (reservedFor (k .reserved))
 abbrev pub secondId : Case → ℕ
 secondId k = suc (firstId k)
 
--- the frame of a request, "sent as DATA_SEQ"
-abbrev pub frameFor : (fields : Fields) (id : ℕ) (bytes : List ℕ) (seq : ℕ) → List ℕ
-frameFor f id bytes seq = message dataSeq seq (payload f id bytes)
-
 -- what the client is handed: data up to the limit; the ACK of its first frame; a response that answers its fields, of any data up to the
 -- limit, cut anywhere before its last byte; readings that keep the rule for the clock, and at which a frame is due; and room enough
 pub record Handed (k : Case) (acknowledgement : List ℕ) : Type 0 where
@@ -84,22 +79,6 @@ polls output clock p exit = record { call = poll output clock; answer = polled p
 abbrev pub hears : Case → (bytes : List ℕ) → Receipt → (reply buffer : List ℕ) → Entry
 hears k bytes r reply buffer =
     record { call = receive bytes (k .reply) (k .buffer) (k .heard); answer = received r; buffers = reply ∷ buffer ∷ [] }
-
--- what the three receives answer: to the ACK, to the first piece, and to the second, with which the response is there
-abbrev pub toAck : (seq : ℕ) → Receipt
-toAck seq = record { item = item (items.message ack seq 0); word = noWord; taken = total 0; replied = 0; ending = none }
-
-abbrev pub toFirst : (first : List ℕ) → Receipt
-toFirst first = record { item = more; word = noWord; taken = length first; replied = 0; ending = none }
-
-abbrev pub toSecond : Fields → (id seq : ℕ) (answer second : List ℕ) → Receipt
-toSecond back id seq answer second = record {
-  item = item (items.message dataSeq seq (headLength + length answer));
-  word = word.Word.response (record { fields = back; rqid = id; length = length answer });
-  taken = length second;
-  replied = total 0;
-  ending = some (record { id = id; cause = word.Cause.response });
-}
 
 -- the whole exchange after open, call by call
 abbrev pub rows : Case → List Entry

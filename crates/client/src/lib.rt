@@ -1,59 +1,20 @@
 // A client of the host endpoint, over its four calls and nothing else: it opens an endpoint and asks twice with the same fields and data.
 // The first request is acknowledged, and answered in two pieces; the second is never heard of, and is given up after three transmissions.
 // Its contract says each answer, ending and buffer exactly, and that its calls are a list of which demand 3 speaks. Both are shown from
-// the contracts of the four calls alone: where one of them is weakened, this crate is not proved.
-mod asking; // a request, and its frame on the line
-mod hearing; // what arrives for the first request
-mod giving_up; // the second request, of which nothing is heard
-
+// the contracts of the four calls alone: where one of them is weakened, this crate or that of its parts, `client_parts`, is not proved.
 ghost use Rattle.command.specs.Promises.{fieldsOf};
 ghost use Rattle.client.specs.Exchange.{Exchanges};
-use asking::ask;
+use client_parts::Asked;
+use client_parts::GivenUp;
+use client_parts::Heard;
+use client_parts::Readings;
+use client_parts::asking::ask;
+use client_parts::giving_up::give_up;
+use client_parts::hearing::hear;
 use command::Fields;
-use endpoint::Endpoint;
 use endpoint::STORE_LENGTH;
-use giving_up::give_up;
-use hearing::hear;
 use host::open;
 use host_answers::OpenAnswer;
-use host_answers::PollAnswer;
-use host_answers::ReceiveAnswer;
-use host_answers::SubmitAnswer;
-
-// The readings that the client brings: when it asks, when it hears an answer and asks again, and when it polls for the second request.
-pub struct Readings {
-    pub asked: u64,
-    pub heard: u64,
-    pub again: u64,
-    pub last: u64,
-    pub over: u64,
-}
-
-// What a submit and two polls answered: the request ID, the frame sent, and *quiet*.
-pub struct Asked {
-    pub id: SubmitAnswer,
-    pub sent: PollAnswer,
-    pub rests: PollAnswer,
-    pub endpoint: Endpoint,
-}
-
-// What three receives answered: to the ACK, to the first piece of the response and to the second.
-pub struct Heard {
-    pub acknowledged: ReceiveAnswer,
-    pub waits: ReceiveAnswer,
-    pub answered: ReceiveAnswer,
-    pub endpoint: Endpoint,
-}
-
-// What five polls answered: the frame sent a second time, *quiet*, a third time, *quiet*, and the end.
-pub struct GivenUp {
-    pub second: PollAnswer,
-    pub rests: PollAnswer,
-    pub third: PollAnswer,
-    pub calm: PollAnswer,
-    pub ended: PollAnswer,
-    pub endpoint: Endpoint,
-}
 
 // All answers of an exchange, and the endpoint afterwards.
 pub struct Report {

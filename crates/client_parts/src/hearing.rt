@@ -1,13 +1,13 @@
 // What arrives for the first request: its ACK, and the response in two pieces.
-ghost use Rattle.client.specs.Parts.{Hears};
+ghost use Rattle.client_parts.specs.Parts.{Hears};
 use crate::Heard;
 use endpoint::Endpoint;
 use endpoint::STORE_LENGTH;
 use host::receive;
 
-// Hands in the ACK, then the two pieces, at one reading.
+// Hands in the ACK, then the two pieces, at one reading. Public for `client`.
 // Ruled out: a response that is told before its last byte is there, and one that is not acknowledged.
-pub(crate) fn hear(
+pub fn hear(
     e: Endpoint,
     store: &mut [u8; STORE_LENGTH],
     ack: &[u8],

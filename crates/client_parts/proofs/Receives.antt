@@ -24,8 +24,8 @@ use Rattle.ledger.specs.Receiving as receiving
 use Rattle.ledger.specs.Receiving.{ackMessage, matches, onData, onMessage}
 use Rattle.ledger.specs.Calls.{receive}
 use Rattle.ledger.specs.Runs.{accepts}
-use Rattle.client.specs.Exchange.{frameFor, toAck, toFirst, toSecond}
-use Rattle.client.specs.Parts.{with-live, idle, asking}
+use Rattle.client_parts.specs.Answers.{frameFor, toAck, toFirst, toSecond}
+use Rattle.client_parts.specs.Parts.{with-live, idle, asking}
 
 ack-allowed : allowed ack 0 ≡ true
 unfolding allowed

@@ -1,9 +1,9 @@
--- `client::giving_up::give_up` meets its contract, by that of poll.
+-- `client_parts::giving_up::give_up` meets its contract, by that of poll.
 use native.Mathlib.Omega.{arith}
 use borrow.Author.Needs.{needs}
-use Rattle.client.proofs.NeverHeard.{gives-up}
-use Rattle.client.proofs.giving_up.give_up.Statement.{statement}
-use Rattle.client.proofs.giving_up.give_up.Tie as tie
+use Rattle.client_parts.proofs.NeverHeard.{gives-up}
+use Rattle.client_parts.proofs.giving_up.give_up.Statement.{statement}
+use Rattle.client_parts.proofs.giving_up.give_up.Tie as tie
 
 poll-requires : tie.Need-poll-requires
 poll-requires c κs = search needs

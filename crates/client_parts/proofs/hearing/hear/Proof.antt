@@ -1,9 +1,9 @@
--- `client::hearing::hear` meets its contract, by that of receive.
+-- `client_parts::hearing::hear` meets its contract, by that of receive.
 use native.Mathlib.Omega.{arith}
 use borrow.Author.Needs.{needs}
-use Rattle.client.proofs.HeardResponse.{hears}
-use Rattle.client.proofs.hearing.hear.Statement.{statement}
-use Rattle.client.proofs.hearing.hear.Tie as tie
+use Rattle.client_parts.proofs.HeardResponse.{hears}
+use Rattle.client_parts.proofs.hearing.hear.Statement.{statement}
+use Rattle.client_parts.proofs.hearing.hear.Tie as tie
 
 receive-requires : tie.Need-receive-requires
 receive-requires c κs = search needs

@@ -17,8 +17,8 @@ use Rattle.ledger.specs.Polling as polling
 use Rattle.ledger.specs.Polling.{earliest}
 use Rattle.ledger.specs.Calls.{submit, poll}
 use Rattle.ledger.specs.Runs.{accepts}
-use Rattle.client.specs.Exchange.{frameFor}
-use Rattle.client.specs.Parts.{with-live, idle, asking}
+use Rattle.client_parts.specs.Answers.{frameFor}
+use Rattle.client_parts.specs.Parts.{with-live, idle, asking}
 
 module _ (reserved before seq next : ℕ) (seen : Seen) where
   -- a submit where nobody is live

@@ -20,7 +20,7 @@ use Rattle.host_claims.specs.Chains.{Chain}
 use Rattle.host_claims.specs.Claims.{Extends}
 use Rattle.host_claims.proofs.Laws.{never-malformed}
 use Rattle.host_claims.proofs.Refining.{steps}
-use Rattle.client.specs.Parts.{told, and}
+use Rattle.client_parts.specs.Parts.{told, and}
 
 -- what a call comes to
 pub record Comes (r : Result) (d : Done) : Type 0 where

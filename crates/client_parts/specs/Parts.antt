@@ -24,11 +24,11 @@ use Rattle.host_answers.specs.Answers.{submitAnswerOf, receiveAnswerOf, pollAns
 use Rattle.host_answers.specs.declared.Opened as opening
 use Rattle.host_claims.specs.Chains.{Chain}
 use Rattle.host_claims.specs.Claims.{Demand3}
-use Rattle.client.specs.Exchange.{frameFor, toAck, toFirst, toSecond}
-use Rattle.client.specs.declared.Readings.{Readings}
-use Rattle.client.specs.declared.Asked.{Asked}
-use Rattle.client.specs.declared.Heard.{Heard}
-use Rattle.client.specs.declared.GivenUp.{GivenUp}
+use Rattle.client_parts.specs.Answers.{frameFor, toAck, toFirst, toSecond}
+use Rattle.client_parts.specs.declared.Readings.{Readings}
+use Rattle.client_parts.specs.declared.Asked.{Asked}
+use Rattle.client_parts.specs.declared.Heard.{Heard}
+use Rattle.client_parts.specs.declared.GivenUp.{GivenUp}
 
 -- a ledger with nothing held and nobody live, and with one live request that wants a response
 abbrev pub with-live : (reserved clock seq id : ℕ) (seen : Seen) → List Request → (held : List ℕ) → Ledger

@@ -1,14 +1,14 @@
 // The second request, of which nothing is heard: its frame goes out twice more, and it ends.
-ghost use Rattle.client.specs.Parts.{GivesUp};
+ghost use Rattle.client_parts.specs.Parts.{GivesUp};
 use crate::GivenUp;
 use crate::Readings;
 use endpoint::Endpoint;
 use endpoint::STORE_LENGTH;
 use host::poll;
 
-// Polls when the frame is due, and once more after each transmission.
+// Polls when the frame is due, and once more after each transmission. Public for `client`.
 // Ruled out: a fourth transmission, and a request that is live for ever.
-pub(crate) fn give_up(
+pub fn give_up(
     e: Endpoint,
     store: &mut [u8; STORE_LENGTH],
     output: &mut [u8],

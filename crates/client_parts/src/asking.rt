@@ -1,6 +1,6 @@
 // A request, and its frame on the line: a submit, the poll that sends and a poll that has nothing to do.
 ghost use Rattle.command.specs.Promises.{fieldsOf};
-ghost use Rattle.client.specs.Parts.{Asks};
+ghost use Rattle.client_parts.specs.Parts.{Asks};
 use crate::Asked;
 use command::Fields;
 use endpoint::Endpoint;
@@ -8,9 +8,9 @@ use endpoint::STORE_LENGTH;
 use host::poll;
 use host::submit;
 
-// Asks with a response wanted, sends the frame, and polls once more at the same reading.
+// Asks with a response wanted, sends the frame, and polls once more at the same reading. Public for `client`.
 // Ruled out: a request ID that was issued before, and a frame that is not the request's.
-pub(crate) fn ask(
+pub fn ask(
     e: Endpoint,
     store: &mut [u8; STORE_LENGTH],
     fields: Fields,

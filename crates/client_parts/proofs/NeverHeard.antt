@@ -10,11 +10,11 @@ use Rattle.endpoint.specs.declared.Endpoint.{Endpoint}
 use Rattle.host_answers.specs.Promises.{pollResult, Promise}
 use Rattle.host_answers.specs.declared.Polled.{Polled}
 use Rattle.host_claims.specs.Claims.{Extends}
-use Rattle.client.specs.Parts.{GivesUp}
-use Rattle.client.specs.declared.Readings.{Readings}
-use Rattle.client.proofs.Calls.{comes, with-call}
-use Rattle.client.proofs.Polls.{poll-calm, poll-again, poll-over}
-use Rattle.client.proofs.AskedOnce.{the-one, poll-passes, rests-1000}
+use Rattle.client_parts.specs.Parts.{GivesUp}
+use Rattle.client_parts.specs.declared.Readings.{Readings}
+use Rattle.client_parts.proofs.Calls.{comes, with-call}
+use Rattle.client_parts.proofs.Polls.{poll-calm, poll-again, poll-over}
+use Rattle.client_parts.proofs.AskedOnce.{the-one, poll-passes, rests-1000}
 
 -- the calls, each with its result and its contract
 module _ (e : Endpoint) (store output : List ℕ) (at : Readings)

@@ -26,10 +26,10 @@ use Rattle.host_answers.specs.Promises.{submitResult, pollResult, Promise}
 use Rattle.host_answers.specs.declared.Submitted as submitting
 use Rattle.host_answers.specs.declared.Polled as polling
 use Rattle.host_claims.specs.Claims.{Extends}
-use Rattle.client.specs.Exchange.{frameFor}
-use Rattle.client.specs.Parts.{Asks}
-use Rattle.client.proofs.Calls.{comes, with-call}
-use Rattle.client.proofs.Polls.{submit-idle, poll-queued, poll-calm}
+use Rattle.client_parts.specs.Answers.{frameFor}
+use Rattle.client_parts.specs.Parts.{Asks}
+use Rattle.client_parts.proofs.Calls.{comes, with-call}
+use Rattle.client_parts.proofs.Polls.{submit-idle, poll-queued, poll-calm}
 
 -- the one buffer of a poll
 pub the-one : {x y : List ℕ} → _≡_ {A = List (List ℕ)} (x ∷ []) (y ∷ []) → x ≡ y

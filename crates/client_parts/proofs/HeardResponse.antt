@@ -16,9 +16,9 @@ use Rattle.endpoint.specs.declared.Endpoint.{Endpoint}
 use Rattle.host_answers.specs.Promises.{receiveResult, Promise}
 use Rattle.host_answers.specs.declared.Received.{Received}
 use Rattle.host_claims.specs.Claims.{Extends}
-use Rattle.client.specs.Parts.{Hears}
-use Rattle.client.proofs.Calls.{comes, with-call}
-use Rattle.client.proofs.Receives.{receive-ack, receive-first, receive-second}
+use Rattle.client_parts.specs.Parts.{Hears}
+use Rattle.client_parts.proofs.Calls.{comes, with-call}
+use Rattle.client_parts.proofs.Receives.{receive-ack, receive-first, receive-second}
 
 -- the two buffers of a receive
 record TheTwo (x y x' y' : List ℕ) : Type 0 where

@@ -1,8 +1,8 @@
--- `client::asking::ask` meets its contract, by those of submit and poll.
+-- `client_parts::asking::ask` meets its contract, by those of submit and poll.
 use borrow.Author.Needs.{needs}
-use Rattle.client.proofs.AskedOnce.{asks}
-use Rattle.client.proofs.asking.ask.Statement.{statement}
-use Rattle.client.proofs.asking.ask.Tie as tie
+use Rattle.client_parts.proofs.AskedOnce.{asks}
+use Rattle.client_parts.proofs.asking.ask.Statement.{statement}
+use Rattle.client_parts.proofs.asking.ask.Tie as tie
 
 submit-requires : tie.Need-submit-requires
 submit-requires c κs = search needs
