@@ -47,14 +47,19 @@ pub fn exchange(
 {
     let opened = open(reserved);
     let answer = opened.answer;
-    let fresh = opened.endpoint;
-    let asked = ask(fresh, store, fields, data, output, at.asked);
-    let sent = asked.endpoint;
-    let heard = hear(sent, store, ack, first, second, reply, buffer, at.heard);
-    let idle = heard.endpoint;
-    let asked_again = ask(idle, store, fields, data, frames, at.heard);
-    let sent_again = asked_again.endpoint;
-    let over = give_up(sent_again, store, frames, at);
+    let asked = ask(opened.endpoint, store, fields, data, output, at.asked);
+    let heard = hear(
+        asked.endpoint,
+        store,
+        ack,
+        first,
+        second,
+        reply,
+        buffer,
+        at.heard,
+    );
+    let asked_again = ask(heard.endpoint, store, fields, data, frames, at.heard);
+    let over = give_up(asked_again.endpoint, store, frames, at);
     Report {
         opened: answer,
         first: asked,

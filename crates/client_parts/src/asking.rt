@@ -23,11 +23,9 @@ pub fn ask(
 {
     let submitted = submit(e, store, fields, data, true, clock);
     let id = submitted.answer;
-    let queued = submitted.endpoint;
-    let sending = poll(queued, store, output, clock);
+    let sending = poll(submitted.endpoint, store, output, clock);
     let sent = sending.answer;
-    let in_flight = sending.endpoint;
-    let resting = poll(in_flight, store, output, clock);
+    let resting = poll(sending.endpoint, store, output, clock);
     let rests = resting.answer;
     let endpoint = resting.endpoint;
     Asked {

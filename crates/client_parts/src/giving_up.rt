@@ -18,17 +18,13 @@ pub fn give_up(
 {
     let resending = poll(e, store, output, at.again);
     let second = resending.answer;
-    let sent_twice = resending.endpoint;
-    let resting = poll(sent_twice, store, output, at.again);
+    let resting = poll(resending.endpoint, store, output, at.again);
     let rests = resting.answer;
-    let rested = resting.endpoint;
-    let sending_last = poll(rested, store, output, at.last);
+    let sending_last = poll(resting.endpoint, store, output, at.last);
     let third = sending_last.answer;
-    let sent_thrice = sending_last.endpoint;
-    let resting_again = poll(sent_thrice, store, output, at.last);
+    let resting_again = poll(sending_last.endpoint, store, output, at.last);
     let calm = resting_again.answer;
-    let rested_again = resting_again.endpoint;
-    let ending = poll(rested_again, store, output, at.over);
+    let ending = poll(resting_again.endpoint, store, output, at.over);
     let ended = ending.answer;
     let endpoint = ending.endpoint;
     GivenUp {

@@ -22,11 +22,9 @@ pub fn hear(
 {
     let to_ack = receive(e, store, ack, reply, buffer, clock);
     let acknowledged = to_ack.answer;
-    let waiting = to_ack.endpoint;
-    let to_first = receive(waiting, store, first, reply, buffer, clock);
+    let to_first = receive(to_ack.endpoint, store, first, reply, buffer, clock);
     let waits = to_first.answer;
-    let holding = to_first.endpoint;
-    let to_second = receive(holding, store, second, reply, buffer, clock);
+    let to_second = receive(to_first.endpoint, store, second, reply, buffer, clock);
     let answered = to_second.answer;
     let endpoint = to_second.endpoint;
     Heard {

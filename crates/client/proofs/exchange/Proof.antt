@@ -21,7 +21,7 @@ give-up-requires : tie.Need-give-up-requires
 give-up-requires c κs = search needs
 
 same-length : tie.Need-same-length
-same-length c = omega (arith, c .before .before .before .before .before .before .before .before .before .before .before .before .before .before .before .before .before .before .before .before .before .before .before .ask .kept .1 .1 .1 .1 .0)
+same-length c = omega (arith, c .before .before .before .before .before .before .before .before .before .before .before .before .before .before .before .before .before .before .before .before .ask .kept .1 .1 .1 .1 .0)
 
 same-length-2 : tie.Need-same-length-2
 same-length-2 c = search needs
@@ -34,10 +34,10 @@ same-length-4 c = search needs
 
 returns : tie.Need-returns
 returns c =
-    let opened = c .before .before .before .before .before .before .before .before .before .before .before .before .before .before .before .before .before .before .before .before .before .before .before .before .before .before .before .open .ensures in
-    let asked = c .before .before .before .before .before .before .before .before .before .before .before .before .before .before .before .before .before .before .before .before .before .before .before .ask .ensures in
-    let heard = c .before .before .before .before .before .before .before .before .before .before .before .before .before .before .before .before .hear .ensures in
-    let asked-again = c .before .before .before .before .before .before .before .before .ask2 .ensures in
+    let opened = c .before .before .before .before .before .before .before .before .before .before .before .before .before .before .before .before .before .before .before .before .before .before .before .open .ensures in
+    let asked = c .before .before .before .before .before .before .before .before .before .before .before .before .before .before .before .before .before .before .before .before .ask .ensures in
+    let heard = c .before .before .before .before .before .before .before .before .before .before .before .before .before .before .hear .ensures in
+    let asked-again = c .before .before .before .before .before .before .before .ask2 .ensures in
     let given-up = c .before .before .give-up .ensures in
     exchanges _ _ _ _ _ _ _ _ _ _ _ _ _ (opened .0) (opened .1) _ _ _ asked _ _ _ _ heard _ _ _ asked-again _ _ _ given-up
 

@@ -18,8 +18,8 @@ same-length c = search needs
 
 returns : tie.Need-returns
 returns c =
-    let submitted = c .before .before .before .before .before .before .before .before .before .before .before .before .before .submit .ensures in
-    let sent = c .before .before .before .before .before .before .before .before .before .poll .ensures in
+    let submitted = c .before .before .before .before .before .before .before .before .before .before .before .submit .ensures in
+    let sent = c .before .before .before .before .before .before .before .before .poll .ensures in
     let rested = c .before .before .before .poll2 .ensures in
     asks _ _ _ _ _ _ _ _ (submitted .0) (submitted .1) _ _ _ (sent .0) (sent .1) _ _ _ (rested .0) (rested .1)
 

@@ -21,14 +21,14 @@ poll-requires-5 : tie.Need-poll-requires-5
 poll-requires-5 c κs = search needs
 
 same-length : tie.Need-same-length
-same-length c = omega (arith, c .before .before .before .poll5 .kept .1 .1 .0, c .before .before .before .before .before .before .before .before .before .poll4 .kept .1 .1 .0, c .before .before .before .before .before .before .before .before .before .before .before .before .before .before .before .poll3 .kept .1 .1 .0, c .before .before .before .before .before .before .before .before .before .before .before .before .before .before .before .before .before .before .before .before .before .poll2 .kept .1 .1 .0, c .before .before .before .before .before .before .before .before .before .before .before .before .before .before .before .before .before .before .before .before .before .before .before .before .before .before .before .poll .kept .1 .1 .0)
+same-length c = omega (arith, c .before .before .before .poll5 .kept .1 .1 .0, c .before .before .before .before .before .before .before .before .poll4 .kept .1 .1 .0, c .before .before .before .before .before .before .before .before .before .before .before .before .before .poll3 .kept .1 .1 .0, c .before .before .before .before .before .before .before .before .before .before .before .before .before .before .before .before .before .before .poll2 .kept .1 .1 .0, c .before .before .before .before .before .before .before .before .before .before .before .before .before .before .before .before .before .before .before .before .before .before .before .poll .kept .1 .1 .0)
 
 returns : tie.Need-returns
 returns c =
-    let second = c .before .before .before .before .before .before .before .before .before .before .before .before .before .before .before .before .before .before .before .before .before .before .before .before .before .before .before .poll .ensures in
-    let rests = c .before .before .before .before .before .before .before .before .before .before .before .before .before .before .before .before .before .before .before .before .before .poll2 .ensures in
-    let third = c .before .before .before .before .before .before .before .before .before .before .before .before .before .before .before .poll3 .ensures in
-    let calm = c .before .before .before .before .before .before .before .before .before .poll4 .ensures in
+    let second = c .before .before .before .before .before .before .before .before .before .before .before .before .before .before .before .before .before .before .before .before .before .before .before .poll .ensures in
+    let rests = c .before .before .before .before .before .before .before .before .before .before .before .before .before .before .before .before .before .before .poll2 .ensures in
+    let third = c .before .before .before .before .before .before .before .before .before .before .before .before .before .poll3 .ensures in
+    let calm = c .before .before .before .before .before .before .before .before .poll4 .ensures in
     let ended = c .before .before .before .poll5 .ensures in
     gives-up _ _ _ _ _ _ _ (second .0) (second .1) _ _ _ (rests .0) (rests .1) _ _ _ (third .0) (third .1) _ _ _ (calm .0) (calm .1) _ _ _
     (ended .0) (ended .1)
