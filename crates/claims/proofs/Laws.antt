@@ -36,7 +36,7 @@ use Rattle.ledger.specs.RequestRuns.{requestRuns}
 use Rattle.ledger.proofs.Keeping as keeping
 use Rattle.ledger.proofs.Numbering as numbers
 use Rattle.ledger.proofs.Examples as examples
-use Rattle.claims.specs.Trace.{endings, liveAfter, requests}
+use Rattle.claims.specs.Trace.{isAccepted, endings, liveAfter, requests}
 use Rattle.claims.specs.ClockRule.{ClockRule}
 use Rattle.claims.specs.Resting.{restless, pollsAt, beforeQuiet, PolledAt, pollsToRest}
 use Rattle.claims.specs.Hearing.{bytesTaken, lastReceive, HeardAs, HeardAll, HeardAlike}
@@ -314,6 +314,11 @@ refused-changes-nothing limit l c n h = refused.changes-nothing limit l c n h
 pub refused-numbers : (limit : ℕ) (l : Ledger) (c : Call) (n : ℕ) → refusal limit l c ≡ some n
     → inOrder (numbersOf (step limit l c .answer)) ≡ refusalAlone n
 refused-numbers limit l c n h = numbers.refused-numbers limit l c n h
+
+-- "An accepted call sets the clock.": to its reading
+pub accepted-sets-clock : (limit : ℕ) (l : Ledger) (c : Call) → isAccepted (step limit l c .answer) ≡ true
+    → step limit l c .next .clock ≡ readingOf c
+accepted-sets-clock limit l c h = refused.sets-clock limit l c h
 
 -- the numbers of one answer of each kind, written out
 pub numbers-told : AllTell tellings
