@@ -25,6 +25,7 @@ use Rattle.ledger.specs.Polling.{responseTime, overdueIn, queuedIn}
 use Rattle.claims.specs.Clauses.{All}
 use Rattle.claims.specs.PlainTerms.{transmissionsIn, counts, Matched}
 use Rattle.ledger.proofs.Cases.{by-test}
+use Rattle.ledger.proofs.States.{provided-test}
 use Rattle.claims.proofs.Lists.{all-right}
 use Rattle.claims.proofs.Searches.{Looked, one-shows, look, find-oldest, find-nobody}
 
@@ -79,10 +80,6 @@ unfolding onMessage
 sequenced-is-acknowledged l t seq payload = refl
 
 -- 4. "A response matched by request ID alone.": what a response ends agrees in every field
-provided-test : {what : Unit {0}} (b : Bool) → provided b tt ≡ some what → b ≡ true
-provided-test true h = refl
-provided-test false h = let z : _≡_ {A = ℕ} 0 1 = cc in absurd (omega arith)
-
 module _ (l : Ledger) (t : ℕ) (payload : List ℕ) (x : Ending) where
   every-field : (b a : List Request) (q : Request) → l .live ≡ b ++ (q ∷ a) → x .id ≡ q .id → matches (commandIn payload) q ≡ true
       → Matched l payload x

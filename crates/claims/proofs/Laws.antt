@@ -116,7 +116,8 @@ pub submit-changes : (limit : ℕ) (l : Ledger) (fields : Fields) (bytes : List 
     → SubmitChanges l fields bytes wanted t id (step limit l (submit fields bytes wanted t) .next)
 submit-changes limit l fields bytes wanted t id h = keeping.submit-changes limit l fields bytes wanted t id h
 
--- **Receive**: what an accepted one changes, and that all else stays. The last SEQ changes by a DATA_SEQ frame alone, and by every such
+-- **Receive**: what an accepted one changes, and that all else stays. The last SEQ changes by a DATA_SEQ frame alone, and by every such;
+-- a request leaves only where the answer names it, and only one that leaves is named
 pub receive-changes : (limit : ℕ) (l : Ledger) (bytes reply buffer : List ℕ) (t : ℕ) (r : Receipt)
     → step limit l (receive bytes reply buffer t) .answer ≡ received r
     → ReceiveChanges l bytes t r (step limit l (receive bytes reply buffer t) .next)
@@ -147,7 +148,8 @@ pub response-matches-every-field : (l : Ledger) (t : ℕ) (payload : List ℕ) (
     → Matched l payload x
 response-matches-every-field l t payload x ends = faults.response-matches-every-field l t payload x ends
 
--- **Poll**: what an accepted one changes, and that all else stays. The next SEQ changes by a first transmission alone, and by every such
+-- **Poll**: what an accepted one changes, and that all else stays. The next SEQ changes by a first transmission alone, and by every such;
+-- a request leaves only where the answer names it, and only one that leaves is named
 pub poll-changes : (limit : ℕ) (l : Ledger) (output : List ℕ) (t : ℕ) (p : Poll)
     → step limit l (poll output t) .answer ≡ polled p → PollChanges l t p (step limit l (poll output t) .next)
 poll-changes limit l output t p h = keeping.poll-changes limit l output t p h

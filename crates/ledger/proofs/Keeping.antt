@@ -31,7 +31,7 @@ use Rattle.ledger.specs.Runs.{step, answersTo}
 use Rattle.ledger.specs.Changes as changes
 use Rattle.ledger.specs.Changes.{idsOn, FirstNotLive, SubmitChanges, lastSeqAfter, Hears, ReceiveChanges, Moves, nextSeqAfter, PollChanges}
 use Rattle.ledger.proofs.Cases.{by-test}
-use Rattle.ledger.proofs.States.{flies-state, acknowledged-state, queued-state}
+use Rattle.ledger.proofs.States.{flies-state, acknowledged-state, matched-state, queued-state, overdue-state}
 use Rattle.ledger.proofs.FreeId.{Unreserved, first-free}
 
 -- a search finds nobody, or one of the live requests
@@ -114,30 +114,31 @@ issued-first l room next =
 module _ (l : Ledger) (t : ℕ) where
   record Acts (last : Seen) (a : Act) : Type 0 where
     seen : a .seen ≡ last
-    live : Hears t (l .live) (a .live)
+    live : Hears t (l .live) (a .live) (a .ending)
 
-  calm : (seen : Seen) (a : Act) → a .seen ≡ seen → a .live ≡ l .live → Acts seen a
-  calm seen a same live = record { seen = same; live = changes.Hears.nobody live }
+  calm : (seen : Seen) (a : Act) → a .seen ≡ seen → a .ending ≡ none → a .live ≡ l .live → Acts seen a
+  calm seen a same ending live = record { seen = same; live = changes.Hears.nobody ending live }
 
   on-ack : (seq : ℕ) (s : Search Frame) → Among (λ q. acknowledgedIn seq (q .state)) (l .live) s → Acts (l .seen) (onAck l t s)
-  on-ack seq nobody h = calm (l .seen) (only l t answer.stray) refl refl
+  on-ack seq nobody h = calm (l .seen) (only l t answer.stray) refl refl refl
   on-ack seq (somebody b it f a) (there among shown) =
       by-test (λ w. it .wanted ≡ w → Acts (l .seen) (if w (receiving.moves l t (waiting t) b it a)
       (receiving.ends l t answer.noWord answer.acknowledged [] b it a))) (it .wanted)
-      (λ w e. record { seen = refl; live = changes.Hears.waits b it a f among (acknowledged-state seq (it .state) shown) w refl })
-      (λ w e. record { seen = refl; live = changes.Hears.leaves b it a among refl })
+      (λ w e. record { seen = refl; live = changes.Hears.waits b it a f among (acknowledged-state seq (it .state) shown) w refl refl })
+      (λ w e. record { seen = refl; live = changes.Hears.acknowledged b it a f among (acknowledged-state seq (it .state) shown) w refl refl })
       refl
 
   on-nak : (s : Search Frame) → Among flies (l .live) s → Acts (l .seen) (onNak l t s)
-  on-nak nobody h = calm (l .seen) (only l t answer.stray) refl refl
+  on-nak nobody h = calm (l .seen) (only l t answer.stray) refl refl refl
   on-nak (somebody b it f a) (there among shown) =
-      record { seen = refl; live = changes.Hears.marked b it a f among (flies-state (it .state) shown) refl }
+      record { seen = refl; live = changes.Hears.marked b it a f among (flies-state (it .state) shown) refl refl }
 
   on-response : (c : answer.Command) (bytes : List ℕ) (s : Search (Unit {0}))
       → Among (λ q. provided (matches c q) tt) (l .live) s → Acts (l .seen) (onResponse l t c bytes s)
-  on-response c bytes nobody h = calm (l .seen) (only l t (answer.unmatched c)) refl refl
+  on-response c bytes nobody h = calm (l .seen) (only l t (answer.unmatched c)) refl refl refl
   on-response c bytes (somebody b it what a) (there among shown) =
-      record { seen = refl; live = changes.Hears.leaves b it a among refl }
+      let its = matched-state c it shown in
+      record { seen = refl; live = changes.Hears.answered b it a among (its .0) (its .1) refl refl }
 
   on-data : (payload : List ℕ) → Acts (l .seen) (onData l t payload)
   unfolding onData
@@ -148,9 +149,9 @@ module _ (l : Ledger) (t : ℕ) where
       record { word = answer.event c; reply = []; ending = none; bytes = dataIn payload; seen = l .seen; live = l .live } in
       by-test (λ b. Acts (l .seen) (if b (only l t answer.notCommand) (if (leb 1 (c .rqid) && leb (c .rqid) (l .reserved)) told response)))
       (not (isCommand payload))
-      (λ e. calm (l .seen) (only l t answer.notCommand) refl refl)
+      (λ e. calm (l .seen) (only l t answer.notCommand) refl refl refl)
       (λ e. by-test (λ b. Acts (l .seen) (if b told response)) (leb 1 (c .rqid) && leb (c .rqid) (l .reserved))
-      (λ e. calm (l .seen) told refl refl)
+      (λ e. calm (l .seen) told refl refl refl)
       (λ e. on-response c (dataIn payload) (oldest (λ q. provided (matches c q) tt) (l .live))
       (among (λ q. provided (matches c q) tt) (l .live))))
 
@@ -166,7 +167,7 @@ module _ (l : Ledger) (t : ℕ) where
       let new = receiving.remembering (seenAfter (l .seen) seq) (onData l t payload) in
       by-test (λ b. Acts (some seq) (receiving.replying (receiving.ackMessage seq) (if b (only l t answer.repeat) new)))
       (isRepeat (l .seen) seq)
-      (λ e. record { seen = same-last (l .seen) seq e; live = changes.Hears.nobody refl })
+      (λ e. record { seen = same-last (l .seen) seq e; live = changes.Hears.nobody refl refl })
       (λ e. record { seen = refl; live = on-data payload .live })
 
   on-message : (type seq : ℕ) (payload : List ℕ) → Acts (if (eqb type dataSeq) (some seq) (l .seen)) (onMessage l t type seq payload)
@@ -187,10 +188,10 @@ module _ (l : Ledger) (t : ℕ) where
       (λ e. on-data payload)))
 
   on-item : (i : line.Answer) (payload : List ℕ) → Acts (lastSeqAfter i (l .seen)) (act l t i payload)
-  on-item more payload = calm (l .seen) (act l t more payload) refl refl
-  on-item (item damagedHeader) payload = calm (l .seen) (act l t (item damagedHeader) payload) refl refl
-  on-item (item forbidden) payload = calm (l .seen) (act l t (item forbidden) payload) refl refl
-  on-item (item damagedPayload) payload = calm (l .seen) (act l t (item damagedPayload) payload) refl refl
+  on-item more payload = calm (l .seen) (act l t more payload) refl refl refl
+  on-item (item damagedHeader) payload = calm (l .seen) (act l t (item damagedHeader) payload) refl refl refl
+  on-item (item forbidden) payload = calm (l .seen) (act l t (item forbidden) payload) refl refl refl
+  on-item (item damagedPayload) payload = calm (l .seen) (act l t (item damagedPayload) payload) refl refl refl
   on-item (item (items.message type seq len)) payload = on-message type seq payload
 
 pub receive-changes : (limit : ℕ) (l : Ledger) (bytes reply buffer : List ℕ) (t : ℕ) (r : Receipt)
@@ -206,10 +207,11 @@ receive-changes limit l bytes reply buffer t r h = go (refusal limit l (receive 
         let got = line.receive (l .held) bytes in
         let does = on-item l t (got .answer) (got .payload) in
         let same : r .item ≡ got .answer = cc in
+        let named : act l t (got .answer) (got .payload) .ending ≡ r .ending = cc in
         record {
           clock = refl;
           seen = rw same (does .seen);
-          live = does .live;
+          live = rw named at (does .live);
           held = refl;
           reserved = refl;
           nextSeq = refl;
@@ -237,22 +239,22 @@ count (q ∷ qs) = go (q .state) (oldest flies qs) (flights qs) (count qs)
 module _ (l : Ledger) (t : ℕ) where
   data Acted : polling.Act → Type 0 where
     acted : {p : Poll} {bytes : List ℕ} {next : ℕ} {live : List Request} → next ≡ nextSeqAfter p (flights (l .live)) (l .nextSeq)
-        → Moves t (l .nextSeq) (l .live) live → Acted (polling.does p bytes next live)
+        → Moves t (l .nextSeq) (l .live) live p → Acted (polling.does p bytes next live)
 
   by-step4 : Acted (step4 l t)
-  by-step4 = acted refl (changes.Moves.nobody refl)
+  by-step4 = acted refl (changes.Moves.nobody _ refl refl)
 
   sends-first : flights (l .live) ≡ 0 → (b : List Request) (it : Request) (a : List Request) → l .live ≡ b ++ (it ∷ a)
       → it .state ≡ queued → Acted (polling.sends l t (firstSent (l .nextSeq) t) (seqAfter (l .nextSeq)) b it a)
   sends-first free b it a among waits =
       let p : Poll = sent (length (polling.frameBytes it (l .nextSeq))) in
-      acted {p = p} (ap (λ n. nextSeqAfter p n (l .nextSeq)) (sym free)) (changes.Moves.first b it a among waits refl)
+      acted {p = p} (ap (λ n. nextSeqAfter p n (l .nextSeq)) (sym free)) (changes.Moves.first b it a among waits refl refl)
 
   sends-again : (n : ℕ) → flights (l .live) ≡ suc n → (b : List Request) (it : Request) (a : List Request) (f : Frame)
       → l .live ≡ b ++ (it ∷ a) → it .state ≡ inFlight f → Acted (polling.sends l t (sentAgain f t) (l .nextSeq) b it a)
   sends-again n one b it a f among flying =
       let p : Poll = sent (length (polling.frameBytes it (f .seq))) in
-      acted {p = p} (ap (λ n. nextSeqAfter p n (l .nextSeq)) (sym one)) (changes.Moves.again b it a f among flying refl)
+      acted {p = p} (ap (λ n. nextSeqAfter p n (l .nextSeq)) (sym one)) (changes.Moves.again b it a f among flying refl refl)
 
   by-step3 : (n : ℕ) → flights (l .live) ≡ n → (flight : Search Frame) → Count flight n → (queue : Search (Unit {0}))
       → Among (λ q. queuedIn (q .state)) (l .live) queue → Acted (orElse (step3 l t flight queue) (step4 l t))
@@ -272,13 +274,15 @@ module _ (l : Ledger) (t : ℕ) where
       by-test (λ x. Acted (orElse (if x (some (if (mayGoAgain f) again over)) none) (step4 l t))) (due f t)
       (λ late. by-test (λ x. Acted (if x again over)) (mayGoAgain f)
       (λ may. sends-again n same b it a f among (flies-state (it .state) shown))
-      (λ may. acted refl (changes.Moves.leaves b it a among refl)))
+      (λ may. acted refl (changes.Moves.unacknowledged b it a f among (flies-state (it .state) shown) refl refl)))
       (λ calm. by-step4)
 
   by-step1 : (overdue : Search (Unit {0})) → Among (λ q. overdueIn t (q .state)) (l .live) overdue
       → (rest : polling.Act) → Acted rest → Acted (orElse (step1 l t overdue) rest)
   by-step1 nobody h rest does = does
-  by-step1 (somebody b it what a) (there among shown) rest does = acted refl (changes.Moves.leaves b it a among refl)
+  by-step1 (somebody b it what a) (there among shown) rest does =
+      let its = overdue-state t (it .state) shown in
+      acted refl (changes.Moves.unanswered b it a (its .since) among (its .state) refl refl)
 
   by-steps : Acted (polling.act l t)
   unfolding polling.act
@@ -301,7 +305,7 @@ poll-changes limit l output t p h = go (refusal limit l (poll output t)) h
         record {
           clock = refl;
           nextSeq = rw (sym same) nextSeq;
-          live = moves;
+          live = rw same at moves;
           reserved = refl;
           nextId = refl;
           seen = refl;
