@@ -1,9 +1,9 @@
 -- Document 01, "Faults we have shipped or nearly shipped": for each, the statement that shuts it out. They say in plain terms what
 -- the definitions say by searches; and so does the last, of the order of poll's steps.
 use Prim.Native.Nat.{ℕ, _+_, _-_, _≤_}
-use mathlib.Core.Bool.{Bool, true, false, not, _&&_, cond as if}
+use mathlib.Core.Bool.{true, not, _&&_, cond as if}
 use mathlib.Core.List.{List, [], _∷_, _++_}
-use mathlib.Core.Option.{none, some}
+use mathlib.Core.Option.{none, some, Option·map}
 use mathlib.Core.Path.{_≡_, refl, sym, _∙_, ap}
 use native.Mathlib.Omega.{arith}
 use lib.Dec.{eqb, leb}
@@ -23,7 +23,7 @@ use Rattle.ledger.specs.Receiving.{only, flies, provided, acknowledgedIn, onAck
 use Rattle.ledger.specs.Polling as polling
 use Rattle.ledger.specs.Polling.{responseTime, overdueIn, queuedIn}
 use Rattle.claims.specs.Clauses.{All}
-use Rattle.claims.specs.PlainTerms.{transmissionsIn, counts, Matched}
+use Rattle.claims.specs.PlainTerms.{counts, Matched}
 use Rattle.ledger.proofs.Cases.{by-test}
 use Rattle.ledger.proofs.States.{provided-test}
 use Rattle.claims.proofs.Lists.{all-right}
@@ -59,15 +59,10 @@ pub nak-keeps-counts : (l : Ledger) (t seq : ℕ) (payload : List ℕ) → count
 unfolding onMessage
 nak-keeps-counts l t seq payload = go (oldest flies (l .live)) (look flies (l .live))
   where
-    marked : (s : State) {f : Frame} → receiving.frameIn s ≡ some f → f .transmissions ≡ transmissionsIn s
-    marked queued h = let z : _≡_ {A = ℕ} 0 1 = cc in absurd (omega arith)
-    marked (waiting since) h = let z : _≡_ {A = ℕ} 0 1 = cc in absurd (omega arith)
-    marked (inFlight g) {f} h = let same : g ≡ f = cc in ap (λ (x : Frame). x .transmissions) (sym same)
-
     behind : (b a : List Request) (it : Request) (f : Frame) → flies it ≡ some f
         → counts (b ++ (withState (inFlight (withMark f)) it ∷ a)) ≡ counts (b ++ (it ∷ a))
-    behind [] a it f h = ap (_∷ counts a) (marked (it .state) h)
-    behind (x ∷ b) a it f h = ap (transmissionsIn (x .state) ∷_) (behind b a it f h)
+    behind [] a it f h = rw h
+    behind (x ∷ b) a it f h = ap (Option·map (λ (g : Frame). g .transmissions) (flies x) ∷_) (behind b a it f h)
 
     go : (s : Search Frame) → Looked flies (l .live) s → counts (onNak l t s .live) ≡ counts (l .live)
     go nobody h = refl

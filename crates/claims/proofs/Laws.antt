@@ -1,9 +1,10 @@
 -- The ledger's theorems in document 01's order, each proved by citing where the work is done. They hold for every list of calls,
 -- refused ones and any clocks included, and for every number of live requests that leaves IDs enough. `Faults.antt` and
 -- `UselessBuilds.antt` say for each fault and each useless build of document 01 which statement shuts it out.
-use Prim.Native.Nat.{ℕ, _+_, _≤_}
+use Prim.Native.Nat.{ℕ, _+_, _≤_, _<_}
 use mathlib.Core.Bool.{Bool, true, false}
 use mathlib.Core.List.{List, _∷_, _++_}
+use mathlib.Core.Logic.{_⊎_}
 use mathlib.Core.Option.{Option, none, some}
 use mathlib.Core.Path.{_≡_, refl}
 use native.Mathlib.Omega.{arith}
@@ -16,7 +17,7 @@ use Rattle.command.specs.Payload.{Fields}
 use Rattle.link.specs.SequenceIds.{seqAfter}
 use Rattle.link.specs.Frames.{Frame, firstSent}
 use Rattle.ledger.specs.Parts.{liveMax, queued, inFlight, waiting, Request, Ledger, withState}
-use Rattle.ledger.specs.Answers.{noResponse, stray, Ending, Receipt, Poll, quiet, refused, submitted, received, polled}
+use Rattle.ledger.specs.Answers.{noResponse, stray, Ending, Receipt, Poll, quiet, Answer, refused, submitted, received, polled}
 use Rattle.ledger.specs.Numbers.{numbersOf, inOrder, refusalAlone}
 use Rattle.ledger.specs.NumberRows.{AllTell, tellings}
 use Rattle.ledger.specs.Submitting.{lastId, isLive, issued}
@@ -36,13 +37,13 @@ use Rattle.ledger.specs.RequestRuns.{requestRuns}
 use Rattle.ledger.proofs.Keeping as keeping
 use Rattle.ledger.proofs.Numbering as numbers
 use Rattle.ledger.proofs.Examples as examples
-use Rattle.claims.specs.Trace.{isAccepted, endings, liveAfter, requests}
+use Rattle.claims.specs.Trace.{Asked, isAccepted, endingIn, frameIn, namedBy, endings, frames, liveAfter, requests}
 use Rattle.claims.specs.ClockRule.{ClockRule}
-use Rattle.claims.specs.Resting.{restless, pollsAt, beforeQuiet, PolledAt, pollsToRest}
+use Rattle.claims.specs.Resting.{isBusyPoll, isQuiet, restless, pollsAt, beforeQuiet, PolledAt, pollsToRest}
 use Rattle.claims.specs.Hearing.{bytesTaken, lastReceive, HeardAs, HeardAll, HeardAlike}
-use Rattle.claims.specs.Clauses.{All, Bounded, OutcomeClaims, LedgerClaims, Enough, longest}
+use Rattle.claims.specs.Clauses.{All, _∈_, Bounded, OutcomeClaims, LedgerClaims, Enough, longest}
 use Rattle.claims.specs.Throughout.{Throughout}
-use Rattle.claims.specs.PlainTerms.{counts, Matched, NothingToDo, QuietTime, Counted, Tight}
+use Rattle.claims.specs.PlainTerms.{counts, Matched, Named, NothingToDo, QuietTime, Counted, AnsweredQuiet, AnsweredBusy}
 use Rattle.claims.proofs.Fine as fine
 use Rattle.claims.proofs.Fine.{not-malformed}
 use Rattle.claims.proofs.Views.{view}
@@ -51,7 +52,7 @@ use Rattle.claims.proofs.Hearing as hearing
 use Rattle.claims.proofs.QuietTime as quiet-times
 use Rattle.claims.proofs.Bound.{always-bounded}
 use Rattle.claims.proofs.Resting as resting
-use Rattle.claims.proofs.RestingWitness.{tight}
+use Rattle.claims.proofs.RestingWitness.{no-sooner}
 use Rattle.claims.proofs.WhilePolled as while-polled
 use Rattle.claims.proofs.Shown.{same-ids, same-length, all-unreserved, all-distinct, reserved-stays}
 use Rattle.claims.proofs.Issued as issued
@@ -59,6 +60,7 @@ use Rattle.claims.proofs.Throughout as throughout
 use Rattle.claims.proofs.Refused as refused
 use Rattle.claims.proofs.Faults as faults
 use Rattle.claims.proofs.UselessBuilds as useless
+use Rattle.claims.proofs.InWords as words
 
 -- "How bytes become items", "After 2, 3 and 5 only the two SYN bytes are removed": with a damaged header
 pub damaged-header-removes-syn : (xs : List ℕ) {d r : ℕ} → scan xs ≡ decided damagedHeader d r → r ≡ 2
@@ -183,6 +185,9 @@ quiet-time limit enough given cs c time h =
     quiet-times.quiet-time limit l c (step limit l c) time (good-run limit enough (start given) cs (start-good limit given) .fine)
     (view limit l c) h
 
+pub quiet-1-to-3000 : (live : List Request) (time : Option ℕ) → QuietTime live time → (ms : ℕ) → time ≡ some ms → (1 ≤ ms) × (ms ≤ 3000)
+quiet-1-to-3000 live time said ms h = words.quiet-1-to-3000 live time said ms h
+
 -- polls at one reading come to rest: from every ledger that is not malformed, at most as many come before a quiet one as are live
 pub rests-by-live : (limit : ℕ) (l : Ledger) (t : ℕ) (outputs : List (List ℕ)) → malformed limit l ≡ false → l .clock ≤ t
     → All (λ output. total maxLen ≤ length output) outputs
@@ -195,9 +200,19 @@ pub comes-to-rest : (limit : ℕ) (l : Ledger) (t : ℕ) (outputs : List (List �
     → beforeQuiet (outcomesOf limit l (pollsAt t outputs)) ≤ limit
 comes-to-rest limit l t outputs sound on room = resting.comes-to-rest limit l t outputs sound on room
 
--- no smaller number does: for every limit for which there are IDs, from some ledger that is not malformed as many do something
-pub rests-no-sooner : (limit : ℕ) → limit ≤ lastId → Tight limit
-rests-no-sooner limit fits = tight limit fits
+-- no smaller number does, for every limit for which there are IDs
+pub rests-no-sooner : (limit : ℕ) → limit ≤ lastId → (n : ℕ)
+    → ((l : Ledger) (t : ℕ) (outputs : List (List ℕ)) → malformed limit l ≡ false → l .clock ≤ t
+    → All (λ output. total maxLen ≤ length output) outputs → beforeQuiet (outcomesOf limit l (pollsAt t outputs)) ≤ n)
+    → limit ≤ n
+rests-no-sooner limit fits n bounds = no-sooner limit fits n bounds
+
+-- *quiet* and something else than that are answers of polls alone
+pub quiet-is-polls : (a : Answer) → isQuiet a ≡ true → AnsweredQuiet a
+quiet-is-polls a h = words.quiet-is-polls a h
+
+pub busy-is-polls : (a : Answer) → isBusyPoll a ≡ true → AnsweredBusy a
+busy-is-polls a h = words.busy-is-polls a h
 
 -- the count of a frame in flight is how many frames polls have put in their output
 pub counts-frames : (limit : ℕ) → Enough limit → (given : ℕ) (cs : List Call) → (b a : List Request) (q : Request) (f : Frame)
@@ -226,6 +241,42 @@ outcome-claims limit enough given cs =
           (all-unreserved (s .ledger .reserved) (s .ledger .clock) h live (s .ledger .live) (fit .each) owners);
       rests = λ reading. omega (arith, resting.always-rests limit enough given cs reading);
     }
+
+-- what that comes to for one frame, one request or two of them: "Accepted means not refused."
+pub accepted-not-refused : (a : Answer) → isAccepted a ≡ true → (n : ℕ) → a ≡ refused n → ⊥
+accepted-not-refused a accepted n h = words.accepted-not-refused a accepted n h
+
+pub not-refused-accepted : (a : Answer) → ((n : ℕ) → a ≡ refused n → ⊥) → isAccepted a ≡ true
+not-refused-accepted a h = words.not-refused-accepted a h
+
+module _ (limit reserved : ℕ) (past : List Entry) (claims : OutcomeClaims limit reserved past) where
+  -- "An ending or a polled frame belongs to the last request before it whose ID it names .., and there always is one."
+  module _ (newer before : List Entry) (e : Entry) (at : past ≡ newer ++ (e ∷ before)) where
+    pub ending-named : (x : Ending) → endingIn (e .answer) ≡ some x → Named (x .id) before
+    ending-named x told = words.ending-named limit reserved past claims newer before e at x told
+
+    pub frame-named : (bytes : List ℕ) → frameIn e ≡ some bytes → Named (namedBy bytes) before
+    frame-named bytes out = words.frame-named limit reserved past claims newer before e at bytes out
+
+  -- "A request is live until an ending that belongs to it."
+  pub one-request : (a : Asked) → a ∈ requests past
+      → ((a ∈ liveAfter past) × (endings (a .place) past ≡ 0)) ⊎ (endings (a .place) past ≡ 1)
+  one-request a asked = words.one-request limit reserved past claims a asked
+
+  -- "Its frame goes out as often as polls put one that belongs to it in their output; all of these are equal"
+  pub three-frames : (place : ℕ) → length (frames place past) ≤ 3
+  three-frames place = words.three-frames limit reserved past claims place
+
+  pub two-frames : (place : ℕ) (f g : List ℕ) → f ∈ frames place past → g ∈ frames place past → f ≡ g
+  two-frames place f g one other = words.two-frames limit reserved past claims place f g one other
+
+  -- "Unreserved means above R."
+  pub above-r : (a : Asked) → a ∈ liveAfter past → (reserved < a .id) × (a .id ≤ 65535)
+  above-r a live = words.above-r limit reserved past claims a live
+
+  pub two-live : (older between newer : List Asked) (a b : Asked) → liveAfter past ≡ older ++ (a ∷ (between ++ (b ∷ newer)))
+      → a .id ≡ b .id → ⊥
+  two-live older between newer a b among same = words.two-live limit reserved past claims older between newer a b among same
 
 -- under "the rule for the clock" every request ends in time: 3,000 ms for each that may be live, and 3,000
 pub ends-in-time : (limit : ℕ) → Enough limit → (given : ℕ) (cs : List Call)
@@ -268,6 +319,11 @@ ledger-claims limit enough given cs =
       next = (omega arith, omega arith);
       sound = not-malformed limit (s .ledger) (good .fine);
     }
+
+-- the next request ID is above R
+pub next-above-r : (limit reserved : ℕ) (s : Run) → LedgerClaims limit reserved s
+    → (reserved < s .ledger .nextId) × (s .ledger .nextId ≤ 65535)
+next-above-r limit reserved s claims = words.next-above-r limit reserved s claims
 
 -- what holds of the end of every list from open on holds after every call of a list; and so, being said of every call, at each
 pub after-every-call : (limit given : ℕ) (holds : Run → Type 0) → ((cs : List Call) → holds (run limit (start given) cs))

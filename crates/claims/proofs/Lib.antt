@@ -25,4 +25,5 @@ pub mod Faults
 pub mod QuietTime
 pub mod Witness
 pub mod UselessBuilds
+pub mod InWords
 pub mod Laws

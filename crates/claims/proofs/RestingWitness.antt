@@ -4,7 +4,7 @@ use mathlib.Core.Bool.{true, false}
 use mathlib.Core.List.{List, [], _∷_}
 use mathlib.Core.Path.{_≡_, refl, ap}
 use native.Mathlib.Omega.{arith}
-use lib.ListN.{length}
+use lib.ListN.{length, replicate, length-replicate}
 use borrow.Author.Tests.{ne-eqb}
 use Rattle.message.specs.Bytes.{total, maxLen}
 use Rattle.link.specs.SequenceIds.{firstSeq}
@@ -13,12 +13,11 @@ use Rattle.ledger.specs.Parts.{waiting, Request, Ledger, oldest}
 use Rattle.ledger.specs.Submitting.{lastId, isLive}
 use Rattle.ledger.specs.Polling as polling
 use Rattle.ledger.specs.Polling.{responseTime, earliest}
-use Rattle.ledger.specs.Refusals.{flights}
+use Rattle.ledger.specs.Refusals.{flights, malformed}
 use Rattle.ledger.specs.Runs.{outcomesOf}
 use Rattle.ledger.specs.Examples as table
 use Rattle.claims.specs.Resting.{pollsAt, beforeQuiet}
 use Rattle.claims.specs.Clauses.{All}
-use Rattle.claims.specs.PlainTerms.{Tight}
 use Rattle.claims.proofs.Fine.{Sound, Distinct, Fine, not-malformed}
 use Rattle.claims.proofs.Resting.{polls}
 
@@ -96,12 +95,27 @@ one-each limit (suc n) (o ∷ os) few fits more room =
     rw (polls limit responseTime (holding (suc n)) o (holding-fine limit (suc n) few fits) (omega arith) (room .0))
     (ap suc (one-each limit n os (omega arith) (omega arith) (omega arith) (room .1)))
 
--- for every limit for which there are IDs
-pub tight : (limit : ℕ) → limit ≤ lastId → Tight limit
-tight limit fits = record {
-  ledger = holding limit;
-  reading = responseTime;
-  sound = not-malformed limit (holding limit) (holding-fine limit limit (omega arith) fits);
-  clock = omega arith;
-  busy = λ outputs more room. one-each limit limit outputs (omega arith) fits more room;
-}
+-- outputs with room for a frame, as many as one likes
+abbrev output : List ℕ
+output = replicate (total maxLen) 0
+
+abbrev outputs : ℕ → List (List ℕ)
+outputs n = replicate n output
+
+all-room : (n : ℕ) → All (λ o. total maxLen ≤ length o) (outputs n)
+all-room zero = tt
+all-room (suc n) = (omega (arith, length-replicate {A = ℕ} (total maxLen) 0), all-room n)
+
+-- so a number that bounds them all is not below the limit, for every limit for which there are IDs
+pub no-sooner : (limit : ℕ) → limit ≤ lastId → (n : ℕ)
+    → ((l : Ledger) (t : ℕ) (outputs : List (List ℕ)) → malformed limit l ≡ false → l .clock ≤ t
+    → All (λ output. total maxLen ≤ length output) outputs → beforeQuiet (outcomesOf limit l (pollsAt t outputs)) ≤ n)
+    → limit ≤ n
+no-sooner limit fits n bounds =
+    let os = outputs (suc limit) in
+    let room = all-room (suc limit) in
+    let fine = holding-fine limit limit (omega arith) fits in
+    let long = length-replicate (suc limit) output in
+    let busy = one-each limit limit os (omega arith) fits (omega (arith, long)) room in
+    let few = bounds (holding limit) responseTime os (not-malformed limit (holding limit) fine) (omega arith) room in
+    omega (arith, busy, few)

@@ -1,32 +1,24 @@
 -- What some rules of document 01 come to, said without the searches of the ledger's definitions: the words in which the statements
 -- about faults and useless builds are made.
-use Prim.Native.Nat.{ℕ, _≤_, _<_}
+use Prim.Native.Nat.{ℕ, _≤_}
 use mathlib.Core.Bool.{true, false}
 use mathlib.Core.List.{List, [], _∷_, _++_, map}
-use mathlib.Core.Option.{Option, none, some}
+use mathlib.Core.Option.{Option, none, some, Option·map}
 use mathlib.Core.Path.{_≡_}
 use lib.ListN.{length}
 use Rattle.command.specs.Payload.{fieldsIn, rqidIn}
-use Rattle.message.specs.Bytes.{total, maxLen}
 use Rattle.link.specs.Frames.{Frame, due}
-use Rattle.ledger.specs.Parts.{State, queued, inFlight, waiting, Request, Ledger}
-use Rattle.ledger.specs.Answers.{Ending}
+use Rattle.ledger.specs.Parts.{inFlight, Request, Ledger}
+use Rattle.ledger.specs.Answers.{Ending, sent, ended, quiet, Answer, polled}
 use Rattle.ledger.specs.Receiving.{flies, isSent}
 use Rattle.ledger.specs.Polling.{responseTime, overdueIn, queuedIn}
-use Rattle.ledger.specs.Refusals.{malformed}
-use Rattle.ledger.specs.Runs.{outcomesOf, Run}
-use Rattle.claims.specs.Trace.{Asked, lastAsked, frames}
-use Rattle.claims.specs.Resting.{pollsAt, beforeQuiet}
-use Rattle.claims.specs.Clauses.{All}
+use Rattle.ledger.specs.Runs.{Entry, Run}
+use Rattle.claims.specs.Trace.{Asked, lastAsked, frames, liveAfter}
+use Rattle.claims.specs.Clauses.{All, _∈_}
 
--- the transmissions of a request's frame, and of all
-abbrev pub transmissionsIn : State → ℕ
-transmissionsIn queued = 0
-transmissionsIn (inFlight f) = f .transmissions
-transmissionsIn (waiting since) = 0
-
-abbrev pub counts : List Request → List ℕ
-counts live = map (λ q. transmissionsIn (q .state)) live
+-- the transmissions of the frame of each request, of those in flight
+abbrev pub counts : List Request → List (Option ℕ)
+counts live = map (λ q. Option·map (λ f. f .transmissions) (flies q)) live
 
 -- the request that a response ends: in flight or waiting, it wants a response, and every field agrees, TID and SID swapped
 pub record Matched (l : Ledger) (payload : List ℕ) (x : Ending) : Type 0 where
@@ -43,6 +35,11 @@ pub record Matched (l : Ledger) (payload : List ℕ) (x : Ending) : Type 0 where
   pub iid : request .fields .iid ≡ fieldsIn payload .iid
   pub tid : request .fields .tid ≡ fieldsIn payload .sid
   pub sid : request .fields .sid ≡ fieldsIn payload .tid
+
+-- of an ID that an ending or a frame names: there is a request before it that has the ID, and the last such is live
+pub record Named (id : ℕ) (before : List Entry) : Type 0 where
+  pub asked : lastAsked id before ≡ none → ⊥
+  pub live : (a : Asked) → lastAsked id before ≡ some a → a ∈ liveAfter before
 
 -- nothing for a poll to do: none is overdue; and none is in flight or queued, or the one in flight is not due
 pub data NothingToDo (t : ℕ) (live : List Request) : Type 0 where
@@ -63,12 +60,11 @@ pub record Counted (s : Run) (q : Request) (f : Frame) : Type 0 where
   pub last : lastAsked (q .id) (s .past) ≡ some request
   pub counts : length (frames (request .place) (s .past)) ≡ f .transmissions
 
--- the limit is the smallest number for which polling comes to rest: a ledger from which so many polls at a reading do something before
--- one is *quiet*, whatever outputs they bring
-pub record Tight (limit : ℕ) : Type 0 where
-  pub ledger : Ledger
-  pub reading : ℕ
-  pub sound : malformed limit ledger ≡ false
-  pub clock : ledger .clock ≤ reading
-  pub busy : (outputs : List (List ℕ)) → limit < length outputs → All (λ o. total maxLen ≤ length o) outputs
-      → beforeQuiet (outcomesOf limit ledger (pollsAt reading outputs)) ≡ limit
+-- an answer that is *quiet*, and one of a poll that did something
+pub record AnsweredQuiet (a : Answer) : Type 0 where
+  pub time : Option ℕ
+  pub told : a ≡ polled (quiet time)
+
+pub data AnsweredBusy (a : Answer) : Type 0 where
+  sends : (n : ℕ) → a ≡ polled (sent n) → AnsweredBusy a
+  ends : (x : Ending) → a ≡ polled (ended x) → AnsweredBusy a
