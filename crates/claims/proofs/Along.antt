@@ -7,13 +7,14 @@ use mathlib.Core.Path.{_≡_, refl}
 use native.Mathlib.Omega.{arith}
 use lib.Dec.{ltb}
 use borrow.Author.Tests.{ltb-false}
+use Rattle.ledger.specs.Lists.{All}
 use Rattle.ledger.specs.Parts.{reservedMax, Ledger}
 use Rattle.ledger.specs.Answers.{Done}
 use Rattle.ledger.specs.Calls.{Call, readingOf}
 use Rattle.ledger.specs.Refusals.{firstOf}
 use Rattle.ledger.specs.Runs.{openedBy, step, Entry, Run, start, then, run}
 use Rattle.claims.specs.Trace.{endings, frames, liveAfter, requests}
-use Rattle.claims.specs.Clauses.{All, Enough}
+use Rattle.claims.specs.Clauses.{Enough}
 use Rattle.ledger.proofs.Cases.{by-test}
 use Rattle.claims.proofs.Lists.{all-map, all-right}
 use Rattle.claims.proofs.Views.{Change, stays, joins, leaves, turns, rests-free, rests-busy, View, refuses, accepts, view}

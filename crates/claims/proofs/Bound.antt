@@ -10,6 +10,7 @@ use lib.ListN.{length}
 use borrow.Author.Tests.{ltb-false, leb-true}
 use Rattle.message.proofs.Headers.{both}
 use Rattle.link.specs.Frames.{maxTransmissions}
+use Rattle.ledger.specs.Lists.{All}
 use Rattle.ledger.specs.Parts.{reservedMax, Request, Ledger, withState}
 use Rattle.ledger.specs.Answers.{sent, ended, quiet, Answer, refused, opened, submitted, received, polled, Done}
 use Rattle.ledger.specs.Polling.{earliest}
@@ -17,7 +18,7 @@ use Rattle.ledger.specs.Calls.{Call, readingOf}
 use Rattle.ledger.specs.Refusals.{firstOf}
 use Rattle.ledger.specs.Runs.{openedBy, step, Entry, Run, start, then, run}
 use Rattle.claims.specs.Trace.{Asked, isAccepted, idIn, lastAsked, endings, liveAfter, requests}
-use Rattle.claims.specs.Clauses.{All, _∈_, here, there, Fate, is-live, has-ended, longest, Bounded, Enough}
+use Rattle.claims.specs.Clauses.{_∈_, here, there, Fate, is-live, has-ended, longest, Bounded, Enough}
 use Rattle.ledger.proofs.Cases.{by-test}
 use Rattle.claims.proofs.ClockTest.{leaveOf, mayBeLater, mayFollow, keepsClockRule, rule-test}
 use Rattle.claims.proofs.Lists.{all-of, all-map, all-right}

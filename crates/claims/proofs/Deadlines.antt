@@ -11,11 +11,11 @@ use lib.ListN.{length}
 use borrow.Author.Tests.{leb-true, leb-false}
 use Rattle.link.specs.Frames.{Frame, maxTransmissions, deadline, due, firstSent}
 use Rattle.link.proofs.Laws.{not-due}
+use Rattle.ledger.specs.Lists.{All}
 use Rattle.ledger.specs.Parts.{State, queued, inFlight, waiting, Request, Ledger, withState}
 use Rattle.ledger.specs.Receiving.{frameIn, flies, provided}
 use Rattle.ledger.specs.Polling.{responseTime, overdueIn, queuedIn, deadlineIn, earlier, earliest}
 use Rattle.ledger.specs.Refusals.{fliesOnce, flights}
-use Rattle.claims.specs.Clauses.{All}
 use Rattle.ledger.proofs.Cases.{by-test}
 use Rattle.claims.proofs.Lists.{all-map, all-right}
 use Rattle.claims.proofs.Views.{Turn, acknowledges, marks, starts, sends-again}

@@ -15,6 +15,7 @@ use Rattle.command.specs.Payload.{isCommand, fieldsIn, rqidIn, dataIn, answers}
 use Rattle.message.proofs.Headers.{both}
 use Rattle.link.specs.SequenceIds.{seqAfter}
 use Rattle.link.specs.Frames.{Frame, firstSent, acknowledgedBy, withMark}
+use Rattle.ledger.specs.Lists.{All}
 use Rattle.ledger.specs.Parts.{State, queued, inFlight, waiting, Request, Ledger, withState, Search, nobody, somebody, oldest}
 use Rattle.ledger.specs.Answers as answer
 use Rattle.ledger.specs.Answers.{stray, Ending, noResponse}
@@ -22,12 +23,11 @@ use Rattle.ledger.specs.Receiving as receiving
 use Rattle.ledger.specs.Receiving.{only, flies, provided, acknowledgedIn, onAck, onNak, isSent, matches, commandIn, onResponse, onData, onMessage, ackMessage}
 use Rattle.ledger.specs.Polling as polling
 use Rattle.ledger.specs.Polling.{responseTime, overdueIn, queuedIn}
-use Rattle.claims.specs.Clauses.{All}
 use Rattle.claims.specs.PlainTerms.{counts, Matched}
 use Rattle.ledger.proofs.Cases.{by-test}
 use Rattle.ledger.proofs.States.{provided-test}
 use Rattle.claims.proofs.Lists.{all-right}
-use Rattle.claims.proofs.Searches.{Looked, one-shows, look, find-oldest, find-nobody}
+use Rattle.ledger.proofs.Searches.{Looked, one-shows, look, find-oldest, find-nobody}
 
 -- 1. "An ACK for an older SEQ ending the frame now in flight.": an ACK with another SEQ than that in flight does nothing
 module _ (l : Ledger) (t seq : ℕ) (payload : List ℕ) where

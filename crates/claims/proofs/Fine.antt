@@ -13,6 +13,7 @@ use Rattle.line.specs.Receiving.{heldMax}
 use Rattle.command.specs.Payload.{maxData}
 use Rattle.link.specs.Frames.{Frame, maxTransmissions}
 use Rattle.link.proofs.Laws.{may-go-again}
+use Rattle.ledger.specs.Lists.{All}
 use Rattle.ledger.specs.Parts.{reservedMax, State, queued, inFlight, waiting, Request, Ledger, withState, fresh}
 use Rattle.ledger.specs.Answers.{Done}
 use Rattle.ledger.specs.Submitting.{lastId, isLive, idAfter, issued}
@@ -21,7 +22,7 @@ use Rattle.ledger.specs.Calls.{Call}
 use Rattle.ledger.specs.Refusals.{some-of, isOutside, twoEqual, fliesOnce, flights, wronglyOften, waitsForNothing, isLate, malformed}
 use Rattle.claims.specs.Trace.{idIn}
 use Rattle.ledger.proofs.Cases.{by-test}
-use Rattle.claims.specs.Clauses.{All, Enough}
+use Rattle.claims.specs.Clauses.{Enough}
 use Rattle.claims.proofs.Lists.{all-map, all-append, all-left, all-right}
 use Rattle.ledger.proofs.FreeId.{Unreserved, after-unreserved, first-free, free-unreserved}
 use Rattle.claims.proofs.Views.{Turn, acknowledges, marks, starts, sends-again, Change, stays, joins, leaves, turns, rests-free, rests-busy, View, refuses, accepts}

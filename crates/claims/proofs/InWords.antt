@@ -8,12 +8,13 @@ use mathlib.Core.Option.{Option, none, some}
 use mathlib.Core.Path.{_≡_, refl, sym, subst, _∙_}
 use native.Mathlib.Omega.{arith}
 use lib.ListN.{length}
+use Rattle.ledger.specs.Lists.{All}
 use Rattle.ledger.specs.Parts.{Request}
 use Rattle.ledger.specs.Answers.{Ending, sent, ended, quiet, Answer, refused, opened, submitted, received, polled}
 use Rattle.ledger.specs.Runs.{Entry, Run}
 use Rattle.claims.specs.Trace.{Asked, isAccepted, endingIn, frameIn, namedBy, lastAsked, endings, frames, liveAfter, requests}
 use Rattle.claims.specs.Resting.{isBusyPoll, isQuiet}
-use Rattle.claims.specs.Clauses.{All, _∈_, here, there, Owner, Belongs, AllBelong, Alike, Fate, is-live, has-ended, DistinctIds, OutcomeClaims, LedgerClaims}
+use Rattle.claims.specs.Clauses.{_∈_, here, there, Owner, Belongs, AllBelong, Alike, Fate, is-live, has-ended, DistinctIds, OutcomeClaims, LedgerClaims}
 use Rattle.claims.specs.PlainTerms.{Named, QuietTime, AnsweredQuiet, AnsweredBusy}
 use Rattle.claims.proofs.Lists.{all-of, all-right}
 

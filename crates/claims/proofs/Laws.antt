@@ -16,6 +16,7 @@ use Rattle.line.specs.Receiving.{more}
 use Rattle.command.specs.Payload.{Fields}
 use Rattle.link.specs.SequenceIds.{seqAfter}
 use Rattle.link.specs.Frames.{Frame, firstSent}
+use Rattle.ledger.specs.Lists.{All}
 use Rattle.ledger.specs.Parts.{liveMax, queued, inFlight, waiting, Request, Ledger, withState}
 use Rattle.ledger.specs.Answers.{noResponse, stray, Ending, Receipt, Poll, quiet, Answer, refused, submitted, received, polled}
 use Rattle.ledger.specs.Numbers.{numbersOf, inOrder, refusalAlone}
@@ -41,7 +42,7 @@ use Rattle.claims.specs.Trace.{Asked, isAccepted, endingIn, frameIn, nam
 use Rattle.claims.specs.ClockRule.{ClockRule}
 use Rattle.claims.specs.Resting.{isBusyPoll, isQuiet, restless, pollsAt, beforeQuiet, PolledAt, pollsToRest}
 use Rattle.claims.specs.Hearing.{bytesTaken, lastReceive, HeardAs, HeardAll, HeardAlike}
-use Rattle.claims.specs.Clauses.{All, _∈_, Bounded, OutcomeClaims, LedgerClaims, Enough, longest}
+use Rattle.claims.specs.Clauses.{_∈_, Bounded, OutcomeClaims, LedgerClaims, Enough, longest}
 use Rattle.claims.specs.Throughout.{Throughout}
 use Rattle.claims.specs.PlainTerms.{counts, Matched, Named, NothingToDo, QuietTime, Counted, AnsweredQuiet, AnsweredBusy}
 use Rattle.claims.proofs.Fine as fine

@@ -1,7 +1,6 @@
 pub mod ClockTest
 pub mod Runs
 pub mod Lists
-pub mod Searches
 pub mod PollCases
 pub mod Views
 pub mod Fine

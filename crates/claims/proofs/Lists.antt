@@ -3,7 +3,8 @@ use Prim.Native.Nat.{_+_}
 use mathlib.Core.List.{List, [], _∷_, _++_}
 use mathlib.Core.Path.{_≡_, refl, ap}
 use lib.ListN.{length, take}
-use Rattle.claims.specs.Clauses.{All, _∈_, here, there}
+use Rattle.ledger.specs.Lists.{All}
+use Rattle.claims.specs.Clauses.{_∈_, here, there}
 
 module _ {A : Type 0} where
   pub all-of : (P : A → Type 0) (xs : List A) → All P xs → (x : A) → x ∈ xs → P x

@@ -10,13 +10,14 @@ use lib.Dec.{eqb}
 use lib.ListN.{replicate, length-replicate}
 use borrow.Author.Tests.{eqb-false, eq-eqb, ne-eqb}
 use Rattle.link.specs.Frames.{maxTransmissions}
+use Rattle.ledger.specs.Lists.{All}
 use Rattle.ledger.specs.Parts.{State, queued, inFlight, waiting, Request, Ledger, withState}
 use Rattle.ledger.specs.Submitting.{isLive}
 use Rattle.ledger.specs.Polling.{frameBytes}
 use Rattle.ledger.specs.Runs.{Entry}
 use Rattle.claims.specs.Trace.{Asked, lastAsked, endings, frames, without}
 use Rattle.ledger.proofs.Cases.{by-test}
-use Rattle.claims.specs.Clauses.{All, _∈_, here, there, Alike, Few}
+use Rattle.claims.specs.Clauses.{_∈_, here, there, Alike, Few}
 use Rattle.claims.proofs.Lists.{all-right}
 use Rattle.claims.proofs.Views.{Turn, acknowledges, marks, starts, sends-again}
 use Rattle.claims.proofs.Fine.{Steady, Distinct}

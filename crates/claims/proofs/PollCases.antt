@@ -6,14 +6,14 @@ use mathlib.Core.Option.{none, some}
 use mathlib.Core.Path.{_≡_}
 use Rattle.link.specs.SequenceIds.{seqAfter}
 use Rattle.link.specs.Frames.{Frame, firstSent, due, mayGoAgain, sentAgain}
+use Rattle.ledger.specs.Lists.{All}
 use Rattle.ledger.specs.Parts.{queued, inFlight, Request, Ledger, Search, nobody, somebody, oldest}
 use Rattle.ledger.specs.Answers.{noResponse, noAcknowledgement}
 use Rattle.ledger.specs.Receiving.{flies}
 use Rattle.ledger.specs.Polling.{Act, overdueIn, queuedIn, orElse, ends, sends, step1, step2, step3, step4, act}
-use Rattle.claims.specs.Clauses.{All}
 use Rattle.ledger.proofs.Cases.{by-test}
 use Rattle.ledger.proofs.States.{flies-state, queued-state}
-use Rattle.claims.proofs.Searches.{Looked, none-shows, one-shows, look}
+use Rattle.ledger.proofs.Searches.{Looked, none-shows, one-shows, look}
 
 pub data Acted (l : Ledger) (t : ℕ) : Act → Type 0 where
   no-response : (b a : List Request) (q : Request) {u : Unit {0}} → l .live ≡ b ++ (q ∷ a) → overdueIn t (q .state) ≡ some u

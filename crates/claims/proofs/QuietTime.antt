@@ -7,13 +7,13 @@ use mathlib.Core.Path.{_≡_, refl, sym, _∙_, subst}
 use native.Mathlib.Omega.{arith}
 use Rattle.link.specs.Frames.{Frame, deadline, due}
 use Rattle.link.proofs.Laws.{not-due}
+use Rattle.ledger.specs.Lists.{All}
 use Rattle.ledger.specs.Parts.{State, queued, inFlight, waiting, Request, Ledger}
 use Rattle.ledger.specs.Answers.{quiet, polled, Done}
 use Rattle.ledger.specs.Receiving.{frameIn, flies}
 use Rattle.ledger.specs.Polling.{responseTime, overdueIn, queuedIn, deadlineIn, earliest}
 use Rattle.ledger.specs.Calls.{Call, readingOf}
 use Rattle.ledger.specs.Refusals.{fliesOnce, flights}
-use Rattle.claims.specs.Clauses.{All}
 use Rattle.claims.specs.PlainTerms.{QuietTime}
 use Rattle.claims.proofs.Lists.{all-append, all-left, all-right, all-both}
 use Rattle.claims.proofs.Views.{quietIn, Change, stays, joins, leaves, turns, rests-free, rests-busy, View, refuses, accepts}

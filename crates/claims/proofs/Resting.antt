@@ -14,6 +14,7 @@ use Rattle.message.proofs.Headers.{both}
 use Rattle.link.specs.SequenceIds.{seqAfter}
 use Rattle.link.specs.Frames.{Frame, firstSent, due, sentAgain}
 use Rattle.link.proofs.Laws.{first-not-due, again-not-due}
+use Rattle.ledger.specs.Lists.{All}
 use Rattle.ledger.specs.Parts.{reservedMax, State, queued, inFlight, waiting, Request, Ledger, withState}
 use Rattle.ledger.specs.Answers.{Cause, noResponse, noAcknowledgement, Poll, sent, ended, quiet, Answer, polled}
 use Rattle.ledger.specs.Receiving as receiving
@@ -25,7 +26,7 @@ use Rattle.ledger.specs.Refusals.{malformed, firstOf, refusal}
 use Rattle.ledger.specs.Runs.{openedBy, answersTo, step, outcomesOf, Entry, Run, start, then, run}
 use Rattle.claims.specs.ClockRule.{acceptedIn}
 use Rattle.claims.specs.Resting.{isBusy, isBusyPoll, busyInARow, restless, pollsAt, beforeQuiet}
-use Rattle.claims.specs.Clauses.{All, Enough}
+use Rattle.claims.specs.Clauses.{Enough}
 use Rattle.ledger.proofs.Cases.{by-test}
 use Rattle.claims.proofs.PollCases.{Acted, no-response, goes-again, gives-up, goes-first, quiet-free, quiet-busy, acted}
 use Rattle.claims.proofs.Views.{View, refuses, accepts, view}

@@ -9,6 +9,7 @@ use borrow.Author.Tests.{ne-eqb}
 use Rattle.message.specs.Bytes.{total, maxLen}
 use Rattle.link.specs.SequenceIds.{firstSeq}
 use Rattle.link.specs.Repeats.{noneSeen}
+use Rattle.ledger.specs.Lists.{All}
 use Rattle.ledger.specs.Parts.{waiting, Request, Ledger, oldest}
 use Rattle.ledger.specs.Submitting.{lastId, isLive}
 use Rattle.ledger.specs.Polling as polling
@@ -17,7 +18,6 @@ use Rattle.ledger.specs.Refusals.{flights, malformed}
 use Rattle.ledger.specs.Runs.{outcomesOf}
 use Rattle.ledger.specs.Examples as table
 use Rattle.claims.specs.Resting.{pollsAt, beforeQuiet}
-use Rattle.claims.specs.Clauses.{All}
 use Rattle.claims.proofs.Fine.{Sound, Distinct, Fine, not-malformed}
 use Rattle.claims.proofs.Resting.{polls}
 

@@ -4,12 +4,13 @@ use mathlib.Core.List.{List, [], _∷_, map}
 use mathlib.Core.Path.{_≡_, refl, sym, _∙_, ap}
 use native.Mathlib.Omega.{arith}
 use lib.ListN.{length}
+use Rattle.ledger.specs.Lists.{All}
 use Rattle.ledger.specs.Parts.{Request, Ledger}
 use Rattle.ledger.specs.Calls.{Call}
 use Rattle.ledger.specs.Runs.{Entry, Run, then, run}
 use Rattle.claims.specs.Trace.{Asked}
 use Rattle.claims.specs.Clauses as clauses
-use Rattle.claims.specs.Clauses.{All, DistinctIds}
+use Rattle.claims.specs.Clauses.{DistinctIds}
 use Rattle.claims.proofs.Views.{View, refuses, accepts, view}
 use Rattle.claims.proofs.Fine.{Sound, Distinct}
 use Rattle.claims.proofs.Belonging.{asked-before}

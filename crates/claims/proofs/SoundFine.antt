@@ -10,10 +10,10 @@ use Rattle.message.proofs.Headers.{both}
 use Rattle.line.specs.Receiving.{heldMax}
 use Rattle.command.specs.Payload.{maxData}
 use Rattle.link.specs.Frames.{maxTransmissions}
+use Rattle.ledger.specs.Lists.{All}
 use Rattle.ledger.specs.Parts.{reservedMax, State, queued, inFlight, waiting, Request, Ledger}
 use Rattle.ledger.specs.Submitting.{lastId, isLive}
 use Rattle.ledger.specs.Refusals.{some-of, isOutside, twoEqual, flights, wronglyOften, waitsForNothing, isLate, malformed}
-use Rattle.claims.specs.Clauses.{All}
 use Rattle.ledger.proofs.FreeId.{Unreserved}
 use Rattle.claims.proofs.Fine.{Steady, Sound, Distinct, Fine, neither}
 

@@ -9,13 +9,14 @@ use native.Mathlib.Omega.{arith}
 use lib.Dec.{eqb}
 use lib.ListN.{length}
 use borrow.Author.Tests.{eqb-true, eqb-false, eq-eqb, ne-eqb}
+use Rattle.ledger.specs.Lists.{All}
 use Rattle.ledger.specs.Parts.{State, queued, Request, Ledger, withState}
 use Rattle.ledger.specs.Answers.{Ending}
 use Rattle.ledger.specs.Submitting.{isLive}
 use Rattle.ledger.specs.Polling.{frameBytes}
 use Rattle.ledger.specs.Runs.{Entry}
 use Rattle.claims.specs.Trace.{Asked, idIn, askedAs, endingIn, frameIn, namedBy, lastAsked, endings, frames, without, liveAfter, requests}
-use Rattle.claims.specs.Clauses.{All, _∈_, here, there, Belongs, AllBelong, Few, Fate, is-live, has-ended}
+use Rattle.claims.specs.Clauses.{_∈_, here, there, Belongs, AllBelong, Few, Fate, is-live, has-ended}
 use Rattle.ledger.proofs.Cases.{by-test}
 use Rattle.claims.proofs.Lists.{all-map, all-append, in-left, in-right}
 use Rattle.claims.proofs.Views.{Turn, acknowledges, marks, starts, sends-again}

@@ -21,6 +21,7 @@ use Rattle.command.specs.Payload.{Fields, maxData, isCommand, dataIn}
 use Rattle.link.specs.SequenceIds.{seqAfter}
 use Rattle.link.specs.Frames.{Frame, withMark, firstSent, due, mayGoAgain, sentAgain}
 use Rattle.link.specs.Repeats.{Seen, isRepeat, seenAfter}
+use Rattle.ledger.specs.Lists.{All}
 use Rattle.ledger.specs.Parts.{State, queued, inFlight, waiting, Request, Ledger, withState, Search, nobody, somebody, oldest}
 use Rattle.ledger.specs.Answers as answer
 use Rattle.ledger.specs.Answers.{Ending, Command, Poll, sent, ended, quiet, Answer, refused, opened, submitted, received, polled, Done}
@@ -35,9 +36,8 @@ use Rattle.ledger.specs.Runs.{step, answersTo}
 use Rattle.claims.specs.Trace.{isAccepted, idIn, endingIn, first, sentIn}
 use Rattle.ledger.proofs.Cases.{by-test}
 use Rattle.ledger.proofs.States.{flies-state, acknowledged-state}
-use Rattle.claims.specs.Clauses.{All}
 use Rattle.claims.proofs.Lists.{take-front}
-use Rattle.claims.proofs.Searches.{Looked, none-shows, one-shows, look}
+use Rattle.ledger.proofs.Searches.{Looked, none-shows, one-shows, look}
 use Rattle.claims.proofs.PollCases.{Acted, no-response, goes-again, gives-up, goes-first, quiet-free, quiet-busy, acted}
 
 -- the time of a quiet answer

@@ -7,13 +7,14 @@ use mathlib.Core.Option.{Option, none}
 use mathlib.Core.Path.{_≡_, refl, subst}
 use native.Mathlib.Omega.{arith}
 use borrow.Author.Tests.{eq-eqb}
+use Rattle.ledger.specs.Lists.{All}
 use Rattle.ledger.specs.Answers.{Poll, sent, ended, quiet, Answer, refused, opened, submitted, received, polled}
 use Rattle.ledger.specs.Calls.{readingOf}
 use Rattle.ledger.specs.Runs.{Entry}
 use Rattle.claims.specs.Trace.{Asked, isAccepted, idIn, endings, requests}
 use Rattle.claims.specs.ClockRule.{acceptedIn, EachFollows, ClockRule}
 use Rattle.claims.specs.Resting.{busyInARow, restless, NewestPolled, PolledAt, pollsToRest}
-use Rattle.claims.specs.Clauses.{All, Bounded}
+use Rattle.claims.specs.Clauses.{Bounded}
 use Rattle.ledger.proofs.Cases.{by-test}
 use Rattle.claims.proofs.ClockTest.{without-newest}
 use Rattle.claims.proofs.Lists.{all-map}

@@ -7,6 +7,7 @@ use mathlib.Core.Path.{_≡_}
 use lib.ListN.{length}
 use Rattle.link.specs.Frames.{maxTransmissions}
 use Rattle.line.specs.Receiving.{heldMax}
+use Rattle.ledger.specs.Lists.{All}
 use Rattle.ledger.specs.Parts.{reservedMax}
 use Rattle.ledger.specs.Answers.{Ending, quiet, polled}
 use Rattle.ledger.specs.Submitting.{lastId}
@@ -16,11 +17,6 @@ use Rattle.ledger.specs.Runs.{Entry, Run}
 use Rattle.claims.specs.Trace.{Asked, isAccepted, endingIn, frameIn, namedBy, lastAsked, endings, frames, liveAfter, requests}
 use Rattle.claims.specs.ClockRule.{ClockRule}
 use Rattle.claims.specs.Resting.{restless}
-
--- every element of a list has a property
-abbrev pub All : {A : Type 0} → (A → Type 0) → List A → Type 0
-All P [] = Unit
-All P (x ∷ xs) = P x × All P xs
 
 -- an element of a list
 infix 20 _∈_

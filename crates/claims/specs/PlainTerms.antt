@@ -8,13 +8,14 @@ use mathlib.Core.Path.{_≡_}
 use lib.ListN.{length}
 use Rattle.command.specs.Payload.{fieldsIn, rqidIn}
 use Rattle.link.specs.Frames.{Frame, due}
+use Rattle.ledger.specs.Lists.{All}
 use Rattle.ledger.specs.Parts.{inFlight, Request, Ledger}
 use Rattle.ledger.specs.Answers.{Ending, sent, ended, quiet, Answer, polled}
 use Rattle.ledger.specs.Receiving.{flies, isSent}
 use Rattle.ledger.specs.Polling.{responseTime, overdueIn, queuedIn}
 use Rattle.ledger.specs.Runs.{Entry, Run}
 use Rattle.claims.specs.Trace.{Asked, lastAsked, frames, liveAfter}
-use Rattle.claims.specs.Clauses.{All, _∈_}
+use Rattle.claims.specs.Clauses.{_∈_}
 
 -- the transmissions of the frame of each request, of those in flight
 abbrev pub counts : List Request → List (Option ℕ)

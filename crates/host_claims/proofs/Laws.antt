@@ -8,6 +8,7 @@ use mathlib.Core.Option.{Option, some}
 use mathlib.Core.Path.{_≡_, sym, ap, subst, _∙_}
 use lib.ListN.{take}
 use Rattle.line.specs.Receiving.{more}
+use Rattle.ledger.specs.Lists.{All}
 use Rattle.ledger.specs.Parts.{liveMax, Ledger}
 use Rattle.ledger.specs.Answers.{quiet, refused, polled}
 use Rattle.ledger.specs.Numbers.{numbersOf, inOrder, refusalAlone}
@@ -17,7 +18,7 @@ use Rattle.claims.specs.Trace.{isAccepted, endings, frames, liveAfter, requests
 use Rattle.claims.specs.ClockRule.{ClockRule}
 use Rattle.claims.specs.Resting.{restless, PolledAt}
 use Rattle.claims.specs.Hearing.{bytesTaken, lastReceive, HeardAs, HeardAll, HeardAlike}
-use Rattle.claims.specs.Clauses.{All, AllBelong, Fate, Few, DistinctIds, Unreserved, Bounded}
+use Rattle.claims.specs.Clauses.{AllBelong, Fate, Few, DistinctIds, Unreserved, Bounded}
 use Rattle.claims.specs.PlainTerms.{QuietTime}
 use Rattle.claims.proofs.Laws.{three-are-few, quiet-time, polled-ends}
 use Rattle.claims.proofs.Runs.{run-agrees}

@@ -17,6 +17,7 @@ use Rattle.command.specs.Payload.{Fields, isCommand, dataIn}
 use Rattle.link.specs.SequenceIds.{seqAfter}
 use Rattle.link.specs.Frames.{Frame, firstSent, due, mayGoAgain, sentAgain}
 use Rattle.link.specs.Repeats.{Seen, isRepeat, seenAfter}
+use Rattle.ledger.specs.Lists.{All}
 use Rattle.ledger.specs.Parts.{State, queued, inFlight, waiting, Request, Ledger, withState, Search, nobody, somebody, frontOr, oldest}
 use Rattle.ledger.specs.Answers as answer
 use Rattle.ledger.specs.Answers.{Receipt, Poll, sent, Answer, submitted, received, polled}
@@ -32,23 +33,8 @@ use Rattle.ledger.specs.Changes as changes
 use Rattle.ledger.specs.Changes.{idsOn, FirstNotLive, SubmitChanges, lastSeqAfter, Hears, ReceiveChanges, Moves, nextSeqAfter, PollChanges}
 use Rattle.ledger.proofs.Cases.{by-test}
 use Rattle.ledger.proofs.States.{flies-state, acknowledged-state, matched-state, queued-state, overdue-state}
+use Rattle.ledger.proofs.Searches.{Looked, one-shows, look, find-oldest}
 use Rattle.ledger.proofs.FreeId.{Unreserved, first-free}
-
--- a search finds nobody, or one of the live requests
-data Among {A : Type 0} (shows : Request → Option A) (live : List Request) : Search A → Type 0 where
-  not-there : Among shows live nobody
-  there : {b a : List Request} {it : Request} {what : A} → live ≡ b ++ (it ∷ a) → shows it ≡ some what
-      → Among shows live (somebody b it what a)
-
-among : {A : Type 0} (shows : Request → Option A) (live : List Request) → Among shows live (oldest shows live)
-unfolding oldest
-among shows [] = not-there
-among {A} shows (q ∷ qs) = go (shows q) refl (oldest shows qs) (among shows qs)
-  where
-    go : (o : Option A) → shows q ≡ o → (s : Search A) → Among shows qs s → Among shows (q ∷ qs) (frontOr o q qs s)
-    go none e nobody h = not-there
-    go none e (somebody b it what a) (there l p) = there {b = q ∷ b} (ap (q ∷_) l) p
-    go (some what) e s h = there refl e
 
 -- submit
 pub submit-changes : (limit : ℕ) (l : Ledger) (fields : Fields) (bytes : List ℕ) (wanted : Bool) (t id : ℕ)
@@ -119,24 +105,24 @@ module _ (l : Ledger) (t : ℕ) where
   calm : (seen : Seen) (a : Act) → a .seen ≡ seen → a .ending ≡ none → a .live ≡ l .live → Acts seen a
   calm seen a same ending live = record { seen = same; live = changes.Hears.nobody ending live }
 
-  on-ack : (seq : ℕ) (s : Search Frame) → Among (λ q. acknowledgedIn seq (q .state)) (l .live) s → Acts (l .seen) (onAck l t s)
+  on-ack : (seq : ℕ) (s : Search Frame) → Looked (λ q. acknowledgedIn seq (q .state)) (l .live) s → Acts (l .seen) (onAck l t s)
   on-ack seq nobody h = calm (l .seen) (only l t answer.stray) refl refl refl
-  on-ack seq (somebody b it f a) (there among shown) =
+  on-ack seq (somebody b it f a) (one-shows among shown others) =
       by-test (λ w. it .wanted ≡ w → Acts (l .seen) (if w (receiving.moves l t (waiting t) b it a)
       (receiving.ends l t answer.noWord answer.acknowledged [] b it a))) (it .wanted)
       (λ w e. record { seen = refl; live = changes.Hears.waits b it a f among (acknowledged-state seq (it .state) shown) w refl refl })
       (λ w e. record { seen = refl; live = changes.Hears.acknowledged b it a f among (acknowledged-state seq (it .state) shown) w refl refl })
       refl
 
-  on-nak : (s : Search Frame) → Among flies (l .live) s → Acts (l .seen) (onNak l t s)
+  on-nak : (s : Search Frame) → Looked flies (l .live) s → Acts (l .seen) (onNak l t s)
   on-nak nobody h = calm (l .seen) (only l t answer.stray) refl refl refl
-  on-nak (somebody b it f a) (there among shown) =
+  on-nak (somebody b it f a) (one-shows among shown others) =
       record { seen = refl; live = changes.Hears.marked b it a f among (flies-state (it .state) shown) refl refl }
 
   on-response : (c : answer.Command) (bytes : List ℕ) (s : Search (Unit {0}))
-      → Among (λ q. provided (matches c q) tt) (l .live) s → Acts (l .seen) (onResponse l t c bytes s)
+      → Looked (λ q. provided (matches c q) tt) (l .live) s → Acts (l .seen) (onResponse l t c bytes s)
   on-response c bytes nobody h = calm (l .seen) (only l t (answer.unmatched c)) refl refl refl
-  on-response c bytes (somebody b it what a) (there among shown) =
+  on-response c bytes (somebody b it what a) (one-shows among shown others) =
       let its = matched-state c it shown in
       record { seen = refl; live = changes.Hears.answered b it a among (its .0) (its .1) refl refl }
 
@@ -153,7 +139,7 @@ module _ (l : Ledger) (t : ℕ) where
       (λ e. by-test (λ b. Acts (l .seen) (if b told response)) (leb 1 (c .rqid) && leb (c .rqid) (l .reserved))
       (λ e. calm (l .seen) told refl refl refl)
       (λ e. on-response c (dataIn payload) (oldest (λ q. provided (matches c q) tt) (l .live))
-      (among (λ q. provided (matches c q) tt) (l .live))))
+      (look (λ q. provided (matches c q) tt) (l .live))))
 
   -- a repeat leaves the last SEQ, which is its own
   same-last : (seen : Seen) (seq : ℕ) → isRepeat seen seq ≡ true → seen ≡ some seq
@@ -177,11 +163,11 @@ module _ (l : Ledger) (t : ℕ) where
       by-test (λ b. Acts (if (eqb type dataSeq) (some seq) (l .seen)) (if b (onAck l t acked)
       (if (eqb type nak) (onNak l t (oldest flies (l .live))) (if (eqb type dataSeq) (onSequenced l t seq payload) (onData l t payload)))))
       (eqb type ack)
-      (λ e. rw (eqb-true type ack e) (on-ack seq acked (among (λ q. acknowledgedIn seq (q .state)) (l .live))))
+      (λ e. rw (eqb-true type ack e) (on-ack seq acked (look (λ q. acknowledgedIn seq (q .state)) (l .live))))
       (λ e. by-test (λ b. Acts (if (eqb type dataSeq) (some seq) (l .seen)) (if b (onNak l t (oldest flies (l .live)))
       (if (eqb type dataSeq) (onSequenced l t seq payload) (onData l t payload))))
       (eqb type nak)
-      (λ e. rw (eqb-true type nak e) (on-nak (oldest flies (l .live)) (among flies (l .live))))
+      (λ e. rw (eqb-true type nak e) (on-nak (oldest flies (l .live)) (look flies (l .live))))
       (λ e. by-test (λ b. Acts (if b (some seq) (l .seen)) (if b (onSequenced l t seq payload) (onData l t payload)))
       (eqb type dataSeq)
       (λ e. on-sequenced seq payload)
@@ -257,18 +243,18 @@ module _ (l : Ledger) (t : ℕ) where
       acted {p = p} (ap (λ n. nextSeqAfter p n (l .nextSeq)) (sym one)) (changes.Moves.again b it a f among flying refl refl)
 
   by-step3 : (n : ℕ) → flights (l .live) ≡ n → (flight : Search Frame) → Count flight n → (queue : Search (Unit {0}))
-      → Among (λ q. queuedIn (q .state)) (l .live) queue → Acted (orElse (step3 l t flight queue) (step4 l t))
+      → Looked (λ q. queuedIn (q .state)) (l .live) queue → Acted (orElse (step3 l t flight queue) (step4 l t))
   by-step3 n same (somebody b it f a) h queue q = by-step4
   by-step3 n same nobody h nobody q = by-step4
-  by-step3 n same nobody h (somebody b it what a) (there among shown) =
+  by-step3 n same nobody h (somebody b it what a) (one-shows among shown others) =
       sends-first (same ∙ h) b it a among (queued-state (it .state) shown)
 
-  by-step2 : (n : ℕ) → flights (l .live) ≡ n → (flight : Search Frame) → Count flight n → Among flies (l .live) flight
-      → (queue : Search (Unit {0})) → Among (λ q. queuedIn (q .state)) (l .live) queue
+  by-step2 : (n : ℕ) → flights (l .live) ≡ n → (flight : Search Frame) → Count flight n → Looked flies (l .live) flight
+      → (queue : Search (Unit {0})) → Looked (λ q. queuedIn (q .state)) (l .live) queue
       → Acted (orElse (step2 l t flight) (orElse (step3 l t flight queue) (step4 l t)))
   by-step2 n same nobody h f queue q = by-step3 n same nobody h queue q
-  by-step2 zero same (somebody b it f a) h (there among shown) queue q = absurd (omega arith)
-  by-step2 (suc n) same (somebody b it f a) h (there among shown) queue q =
+  by-step2 zero same (somebody b it f a) h (one-shows among shown others) queue q = absurd (omega arith)
+  by-step2 (suc n) same (somebody b it f a) h (one-shows among shown others) queue q =
       let over = polling.ends l t answer.noAcknowledgement b it a in
       let again = polling.sends l t (sentAgain f t) (l .nextSeq) b it a in
       by-test (λ x. Acted (orElse (if x (some (if (mayGoAgain f) again over)) none) (step4 l t))) (due f t)
@@ -277,10 +263,10 @@ module _ (l : Ledger) (t : ℕ) where
       (λ may. acted refl (changes.Moves.unacknowledged b it a f among (flies-state (it .state) shown) refl refl)))
       (λ calm. by-step4)
 
-  by-step1 : (overdue : Search (Unit {0})) → Among (λ q. overdueIn t (q .state)) (l .live) overdue
+  by-step1 : (overdue : Search (Unit {0})) → Looked (λ q. overdueIn t (q .state)) (l .live) overdue
       → (rest : polling.Act) → Acted rest → Acted (orElse (step1 l t overdue) rest)
   by-step1 nobody h rest does = does
-  by-step1 (somebody b it what a) (there among shown) rest does =
+  by-step1 (somebody b it what a) (one-shows among shown others) rest does =
       let its = overdue-state t (it .state) shown in
       acted refl (changes.Moves.unanswered b it a (its .since) among (its .state) refl refl)
 
@@ -289,9 +275,9 @@ module _ (l : Ledger) (t : ℕ) where
   by-steps =
       let flight = oldest flies (l .live) in
       let queue = oldest (λ q. queuedIn (q .state)) (l .live) in
-      by-step1 (oldest (λ q. overdueIn t (q .state)) (l .live)) (among (λ q. overdueIn t (q .state)) (l .live))
+      by-step1 (oldest (λ q. overdueIn t (q .state)) (l .live)) (look (λ q. overdueIn t (q .state)) (l .live))
       (orElse (step2 l t flight) (orElse (step3 l t flight queue) (step4 l t)))
-      (by-step2 (flights (l .live)) refl flight (count (l .live)) (among flies (l .live)) queue (among (λ q. queuedIn (q .state)) (l .live)))
+      (by-step2 (flights (l .live)) refl flight (count (l .live)) (look flies (l .live)) queue (look (λ q. queuedIn (q .state)) (l .live)))
 
 pub poll-changes : (limit : ℕ) (l : Ledger) (output : List ℕ) (t : ℕ) (p : Poll)
     → step limit l (poll output t) .answer ≡ polled p → PollChanges l t p (step limit l (poll output t) .next)
@@ -318,21 +304,20 @@ poll-changes limit l output t p h = go (refusal limit l (poll output t)) h
     go none h = accepted (polling.act l t) (by-steps l t) h
 
 -- "ACK with the SEQ in flight: response wanted, it waits from this reading"
-find-flight : (b a : List Request) (q : Request) (f : Frame) → flights b ≡ 0 → q .state ≡ inFlight f
-    → oldest (λ q. acknowledgedIn (f .seq) (q .state)) (b ++ (q ∷ a)) ≡ somebody b q f a
-unfolding oldest flights
-find-flight [] a q f alone flying = rw (flying, eq-eqb (f .seq) (f .seq) refl)
-find-flight (x ∷ b) a q f alone flying = go (x .state) refl (λ none. find-flight b a q f none flying)
+not-acknowledged : (seq : ℕ) (b : List Request) → flights b ≡ 0 → All (λ q. acknowledgedIn seq (q .state) ≡ none) b
+unfolding flights
+not-acknowledged seq [] alone = tt
+not-acknowledged seq (q ∷ b) alone = (here (q .state) (omega arith), not-acknowledged seq b (omega arith))
   where
-    go : (s : State) → x .state ≡ s
-        → (flights b ≡ 0 → oldest (λ q. acknowledgedIn (f .seq) (q .state)) (b ++ (q ∷ a)) ≡ somebody b q f a)
-        → oldest (λ q. acknowledgedIn (f .seq) (q .state)) (x ∷ (b ++ (q ∷ a))) ≡ somebody (x ∷ b) q f a
-    go queued e rest = let none-before : 0 + flights b ≡ 0 = rw e at alone in rw (e, rest (omega arith))
-    go (waiting since) e rest = let none-before : 0 + flights b ≡ 0 = rw e at alone in rw (e, rest (omega arith))
-    go (inFlight g) e rest = let one-before : 1 + flights b ≡ 0 = rw e at alone in absurd (omega arith)
+    here : (s : State) → fliesOnce s ≡ 0 → acknowledgedIn seq s ≡ none
+    here queued h = refl
+    here (inFlight f) h = absurd (omega arith)
+    here (waiting since) h = refl
 
 pub ack-waits : (l : Ledger) (t : ℕ) (b a : List Request) (q : Request) (f : Frame) (payload : List ℕ)
     → l .live ≡ b ++ (q ∷ a) → flights b ≡ 0 → q .state ≡ inFlight f → q .wanted ≡ true
     → onMessage l t ack (f .seq) payload .live ≡ b ++ (withState (waiting t) q ∷ a)
 unfolding onMessage
-ack-waits l t b a q f payload among alone flying wanted = rw (among, find-flight b a q f alone flying, wanted)
+ack-waits l t b a q f payload among alone flying wanted =
+    let shown : acknowledgedIn (f .seq) (q .state) ≡ some f = rw (flying, eq-eqb (f .seq) (f .seq) refl) in
+    rw (among, find-oldest (λ x. acknowledgedIn (f .seq) (x .state)) b a q shown (not-acknowledged (f .seq) b alone), wanted)

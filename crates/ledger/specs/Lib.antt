@@ -1,3 +1,4 @@
+pub mod Lists
 pub mod Parts
 pub mod Answers
 pub mod Numbers

@@ -2,8 +2,8 @@
 use mathlib.Core.List.{List, [], _∷_, _++_}
 use mathlib.Core.Option.{Option, none, some}
 use mathlib.Core.Path.{_≡_, refl, ap}
+use Rattle.ledger.specs.Lists.{All}
 use Rattle.ledger.specs.Parts.{Request, Search, nobody, somebody, frontOr, oldest}
-use Rattle.claims.specs.Clauses.{All}
 
 pub data Looked {A : Type 0} (shows : Request → Option A) (live : List Request) : Search A → Type 0 where
   none-shows : All (λ q. shows q ≡ none) live → Looked shows live nobody
