@@ -13,6 +13,9 @@ use live_search::is_flying;
 use live_search::is_overdue;
 use live_search::is_queued;
 
+// The rows stand oldest first: where a search begins.
+const OLDEST: usize = 0;
+
 // The row of the oldest waiting request whose time is up; `count` where there is none. All three ask that the rows are within their
 // array: the callers have refused a malformed endpoint.
 // Ruled out, of all three: a later request where an older one is in that state, and a row that is not in use.
@@ -21,7 +24,7 @@ pub fn oldest_overdue(live: Requests, clock: u64) -> usize
     ensures { λ r. ⌜ r ≡ firstWhere (λ q. shows (Overdue clock) (requestOf q [])) (rowsOf live) ⌝ }
 {
     let count = live.count;
-    let mut i = 0;
+    let mut i = OLDEST;
     while i < LIVE_MAX {
         if count <= i {
             return i;
@@ -42,7 +45,7 @@ pub fn oldest_flying(live: Requests) -> usize
     ensures { λ r. ⌜ r ≡ firstWhere (λ q. shows Flying (requestOf q [])) (rowsOf live) ⌝ }
 {
     let count = live.count;
-    let mut i = 0;
+    let mut i = OLDEST;
     while i < LIVE_MAX {
         if count <= i {
             return i;
@@ -63,7 +66,7 @@ pub fn oldest_queued(live: Requests) -> usize
     ensures { λ r. ⌜ r ≡ firstWhere (λ q. shows Queued (requestOf q [])) (rowsOf live) ⌝ }
 {
     let count = live.count;
-    let mut i = 0;
+    let mut i = OLDEST;
     while i < LIVE_MAX {
         if count <= i {
             return i;
