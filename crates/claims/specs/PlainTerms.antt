@@ -1,5 +1,5 @@
 -- What some rules of document 01 come to, said without the searches of the ledger's definitions: the words in which the statements
--- about faults and useless builds are made.
+-- about faults, useless builds and single requests are made.
 use Prim.Native.Nat.{ℕ, _≤_}
 use mathlib.Core.Bool.{true, false}
 use mathlib.Core.List.{List, [], _∷_, _++_, map}
