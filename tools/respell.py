@@ -32,7 +32,7 @@ BEFORE = {
 def snake(name):
     if name in LAWS:
         return name.replace("-", "_") + "_law"
-    return re.sub(r"(?<=[a-z0-9])([A-Z])", lambda m: "_" + m.group(1).lower(), name).replace("-", "_")
+    return re.sub(r"(?<=[A-Za-z0-9])([A-Z])", lambda m: "_" + m.group(1).lower(), name).replace("-", "_")
 
 
 def files(root, ends):

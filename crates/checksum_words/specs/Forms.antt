@@ -31,15 +31,15 @@ up k = up_in 64 k
 
 -- A number over P: P is x^16 (1 + x^-4 + x^-11 + x^-16), and 1 over that bracket is the bracket times its square, times the square of
 -- that, and so on until the shifts leave the number. Of P times the quotient the lowest 16 bits are the remainder.
-abbrev pub times_pIn : ℕ → Shifts
-times_pIn w = then (sum (sum same (up_in w 5)) (up_in w 12)) (low 16)
+abbrev pub times_p_in : ℕ → Shifts
+times_p_in w = then (sum (sum same (up_in w 5)) (up_in w 12)) (low 16)
 
 -- of 32 bits
 abbrev pub of_half : Shifts
 of_half =
     then (sum (sum (sum same (right 4)) (right 11)) (right 16))
     (then (sum (sum same (right 8)) (right 22))
-    (then (sum same (right 16)) (times_pIn 32)))
+    (then (sum same (right 16)) (times_p_in 32)))
 
 -- of 64 bits
 abbrev pub of_word : Shifts
@@ -47,7 +47,7 @@ of_word =
     then (sum (sum (sum same (right 4)) (right 11)) (right 16))
     (then (sum (sum (sum same (right 8)) (right 22)) (right 32))
     (then (sum (sum same (right 16)) (right 44))
-    (then (sum same (right 32)) (times_pIn 64))))
+    (then (sum same (right 32)) (times_p_in 64))))
 
 -- what a word in front of another adds to it, modulo P^4
 abbrev pub to_one : Shifts

@@ -25,7 +25,7 @@ use Rattle.ledger.specs.Calls.{Call, submit, receive, poll, reading_of}
 use Rattle.ledger.specs.Refusals.{malformed, first_of, refusal}
 use Rattle.ledger.specs.Runs.{opened_by, answers_to, step, outcomes_of, Entry, Run, start, then, run}
 use Rattle.claims.specs.ClockRule.{accepted_in}
-use Rattle.claims.specs.Resting.{is_busy, is_busy_poll, busy_in_aRow, restless, polls_at, before_quiet}
+use Rattle.claims.specs.Resting.{is_busy, is_busy_poll, busy_in_a_row, restless, polls_at, before_quiet}
 use Rattle.claims.specs.Clauses.{Enough}
 use Rattle.ledger.proofs.Cases.{by_test}
 use Rattle.claims.proofs.PollCases.{Acted, no_response_law, goes_again, gives_up, goes_first, quiet_free, quiet_busy, acted}
@@ -203,7 +203,7 @@ module _ (limit t : ℕ) where
   restful-after : (l : Ledger) (c : Call) (h : List Entry) → Fine limit (step limit l c).next → View limit l c (step limit l c)
       → restless t h + load t l.live ≤ limit
       → restless t (entry_of c (step limit l c) ∷ h) + load t (step limit l c).next.live ≤ limit
-  unfolding accepted_in busy_in_aRow
+  unfolding accepted_in busy_in_a_row
   restful-after l c h fine (refuses n number buffers same) before = rw (number, same) before
   restful-after l c h fine (accepts go_on accepted keeps change) before =
       let some_left = load_few t (step limit l c).next.live in
@@ -228,7 +228,7 @@ module _ (limit t : ℕ) where
 
 -- nothing is live at the start
 start_restful : (limit given t : ℕ) → Restful limit t (start given)
-unfolding first_of accepted_in busy_in_aRow load
+unfolding first_of accepted_in busy_in_a_row load
 start_restful limit given t =
     by_test (λ b. restless t [] + load t (opened_by given (if b (some 3) none)).next.live ≤ limit) (ltb reserved_max given)
     (λ e. omega arith)

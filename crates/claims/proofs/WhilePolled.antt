@@ -13,7 +13,7 @@ use Rattle.ledger.specs.Calls.{reading_of}
 use Rattle.ledger.specs.Runs.{Entry}
 use Rattle.claims.specs.Trace.{Asked, is_accepted, id_in, endings, requests}
 use Rattle.claims.specs.ClockRule.{accepted_in, EachFollows, ClockRule}
-use Rattle.claims.specs.Resting.{busy_in_aRow, restless, NewestPolled, PolledAt, polls_to_rest}
+use Rattle.claims.specs.Resting.{busy_in_a_row, restless, NewestPolled, PolledAt, polls_to_rest}
 use Rattle.claims.specs.Clauses.{Bounded}
 use Rattle.ledger.proofs.Cases.{by_test}
 use Rattle.claims.proofs.ClockTest.{without_newest}
@@ -55,9 +55,9 @@ module _ (bound t : ℕ) where
         subst (λ r. All (λ a. a.time + bound ≤ r → endings a.place (e ∷ es) ≡ 1) (requests (e ∷ es))) read
         ((bounded.0 rule).0 time answered)
 
-    one-poll : (n : ℕ) (p : Poll) → e.answer ≡ polled p → busy_in_aRow t (e ∷ accepted_in es) < suc n
+    one-poll : (n : ℕ) (p : Poll) → e.answer ≡ polled p → busy_in_a_row t (e ∷ accepted_in es) < suc n
         → (restless t es < n → All (Ended es) (requests es)) → All (Ended (e ∷ es)) (requests (e ∷ es))
-    unfolding busy_in_aRow
+    unfolding busy_in_a_row
     one-poll n (sent k) answered few before =
         let fewer = rw (read, eq-eqb t t refl, answered) at few in one_more e es (rw answered) once (before (omega arith))
     one-poll n (ended x) answered few before =
@@ -68,7 +68,7 @@ module _ (bound t : ℕ) where
   newest : (e : Entry) (es : List Entry) (n : ℕ) → ClockRule (e ∷ es) → Bounded bound (e ∷ es)
       → ((place : ℕ) → endings place (e ∷ es) ≤ 1)
       → ((m : ℕ) → PolledAt t m es → restless t es < m → ClockRule es → All (Ended es) (requests es))
-      → NewestPolled t n (e ∷ accepted_in es) → busy_in_aRow t (e ∷ accepted_in es) < n → EachFollows (e ∷ accepted_in es)
+      → NewestPolled t n (e ∷ accepted_in es) → busy_in_a_row t (e ∷ accepted_in es) < n → EachFollows (e ∷ accepted_in es)
       → All (Ended (e ∷ es)) (requests (e ∷ es))
   newest e es zero rule bounded once before polls few follows = absurd (omega arith)
   newest e es (suc n) rule bounded once before polls few follows =
@@ -83,7 +83,7 @@ module _ (bound t : ℕ) where
       let once-before : (place : ℕ) → endings place es ≤ 1 =
       λ place. (let more = ends_more e es place in let most = once place in omega arith) in
       by_test (λ x. NewestPolled t n (if x (e ∷ accepted_in es) (accepted_in es))
-      → busy_in_aRow t (if x (e ∷ accepted_in es) (accepted_in es)) < n → EachFollows (if x (e ∷ accepted_in es) (accepted_in es))
+      → busy_in_a_row t (if x (e ∷ accepted_in es) (accepted_in es)) < n → EachFollows (if x (e ∷ accepted_in es) (accepted_in es))
       → All (Ended (e ∷ es)) (requests (e ∷ es)))
       (is_accepted e.answer)
       (λ accepted polls few follows.

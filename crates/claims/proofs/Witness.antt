@@ -28,14 +28,14 @@ use Rattle.ledger.specs.Examples as table
 use Rattle.ledger.specs.Examples.{zeros}
 use Rattle.claims.specs.Trace.{last_asked, endings, frames, without, live_after, requests}
 use Rattle.claims.specs.ClockRule.{accepted_in, ClockRule}
-use Rattle.claims.specs.Resting.{busy_in_aRow, restless, PollAt, PolledAt, polls_to_rest}
+use Rattle.claims.specs.Resting.{busy_in_a_row, restless, PollAt, PolledAt, polls_to_rest}
 use Rattle.claims.proofs.ClockTest.{may_follow, keeps_clock_rule, rule_test, test_rule}
 
 -- all that a list is computed with
 computed : Unit {0}
 unfolding run step first_of malformed flights two_equal some_of polling.act earliest first_free is_live id_after oldest due may_go_again seq_after payload placed
     message body header fields le16 checksum_of checksum_from with_bits with_bit bits_of last_asked endings frames without live_after requests may_follow
-    keeps_clock_rule accepted_in busy_in_aRow
+    keeps_clock_rule accepted_in busy_in_a_row
 computed = tt
 
 abbrev polls : ℕ → Call

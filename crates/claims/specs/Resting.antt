@@ -27,13 +27,13 @@ is_quiet (received r) = false
 is_quiet (polled p) = not (is_busy p)
 
 -- how many of the newest calls in a row were polls at a reading that did something
-unfoldable pub busy_in_aRow : (reading : ℕ) → List Entry → ℕ
-busy_in_aRow t [] = 0
-busy_in_aRow t (e ∷ es) = if (is_busy_poll e.answer && eqb (reading_of e.call) t) (suc (busy_in_aRow t es)) 0
+unfoldable pub busy_in_a_row : (reading : ℕ) → List Entry → ℕ
+busy_in_a_row t [] = 0
+busy_in_a_row t (e ∷ es) = if (is_busy_poll e.answer && eqb (reading_of e.call) t) (suc (busy_in_a_row t es)) 0
 
 -- the same of the accepted calls, whatever refused ones stand between
 abbrev pub restless : (reading : ℕ) → (past : List Entry) → ℕ
-restless t past = busy_in_aRow t (accepted_in past)
+restless t past = busy_in_a_row t (accepted_in past)
 
 -- polls at one reading, each with an output of its own
 abbrev pub polls_at : (reading : ℕ) → (outputs : List (List ℕ)) → List Call

@@ -26,7 +26,7 @@ pub fn write(part: &mut [u8], fields: Fields, id: RequestId, data: &[u8]) -> usi
     ensures { Wrote result (fields_of fields) id.0 «data».now part.old part.new }
 {
     write_head(part, fields, id);
-    let len = bytes::copy(data, &mut part[HEAD_LENGTH..]);
+    let len = byte_slices::copy(data, &mut part[HEAD_LENGTH..]);
     HEAD_LENGTH + len
 }
 

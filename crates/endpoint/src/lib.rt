@@ -21,7 +21,7 @@ pub const RESPONSE_TIME: u64 = 3000;
 pub const STORE_LENGTH: usize = HELD_MAX + LIVE_MAX * MAX_DATA;
 
 // Where a live request stands: queued, its frame in flight, or waiting for its response from a reading of the clock on.
-#[derive(Drop)]
+#[derive(Clone, Copy)]
 pub enum State {
     Queued,
     InFlight(Frame),
@@ -30,7 +30,7 @@ pub enum State {
 
 // A live request: its ID, the fields it was submitted with, whether a response is wanted, how many bytes of data it has, and where
 // it stands. The data of the request in row i are in room i of the store.
-#[derive(Drop)]
+#[derive(Clone, Copy)]
 pub struct Request {
     pub id: RequestId,
     pub fields: Fields,
@@ -40,7 +40,7 @@ pub struct Request {
 }
 
 // The live requests, oldest first: the first `count` rows.
-#[derive(Drop)]
+#[derive(Clone, Copy)]
 pub struct Requests {
     pub rows: [Request; LIVE_MAX],
     pub count: usize,
@@ -48,7 +48,7 @@ pub struct Requests {
 
 // An endpoint, beside its store: the live requests, R, the last accepted reading of the clock, the next SEQ, the next request ID,
 // what was seen of the controller's frames, and how many bytes are held at the front of the store.
-#[derive(Drop)]
+#[derive(Clone, Copy)]
 pub struct Endpoint {
     pub live: Requests,
     pub reserved: u64,

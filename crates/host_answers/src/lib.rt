@@ -31,14 +31,14 @@ pub struct Submitted {
 }
 
 // The ending that a receive reports, if any.
-#[derive(Drop)]
+#[derive(Clone, Copy)]
 pub enum Ended {
     Nobody,
     One(Ending),
 }
 
 // What an accepted receive answers: the item or *more*, the word, the bytes taken, the reply's length and the ending.
-#[derive(Drop)]
+#[derive(Clone, Copy)]
 pub struct Receipt {
     pub item: Answer,
     pub word: Word,

@@ -70,7 +70,7 @@ fn put_data(buffer: &mut [u8], body: &[u8])
     requires { length (data_in body.now) ≤ length buffer.old }
     ensures { buffer.new ≡ placed 0 (data_in body.now) buffer.old }
 {
-    bytes::copy(command::reader::data(body), buffer);
+    byte_slices::copy(command::reader::data(body), buffer);
 }
 
 // The ending that a change makes. For `host_receiving`, whose change names a row in use: a search has found it.

@@ -4,7 +4,7 @@ use command::{Fields, RequestId};
 
 // Why a request ended: its frame was acknowledged and no response was wanted, its response came, none came in 3,000 ms, or its
 // frame went out three times without an acknowledgement.
-#[derive(Drop)]
+#[derive(Clone, Copy)]
 pub enum Cause {
     Acknowledged,
     Response,
@@ -13,14 +13,14 @@ pub enum Cause {
 }
 
 // The ending of a request: which one, and why.
-#[derive(Drop)]
+#[derive(Clone, Copy)]
 pub struct Ending {
     pub id: RequestId,
     pub cause: Cause,
 }
 
 // A command that came: its fields, its request ID and how many bytes of data it has.
-#[derive(Drop)]
+#[derive(Clone, Copy)]
 pub struct Command {
     pub fields: Fields,
     pub id: RequestId,
@@ -28,7 +28,7 @@ pub struct Command {
 }
 
 // The word that a message earns, if any.
-#[derive(Drop)]
+#[derive(Clone, Copy)]
 pub enum Word {
     Nothing,
     Stray,

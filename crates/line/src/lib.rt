@@ -9,7 +9,7 @@ use message::Item;
 pub const HELD_MAX: usize = 265;
 
 // The item that a call decided, or that it wants more bytes.
-#[derive(Drop)]
+#[derive(Clone, Copy)]
 pub enum Answer {
     More,
     One(Item),

@@ -24,5 +24,5 @@ pub fn put_at(array: &mut [u8], at: usize, bytes: &[u8])
     requires { at + length bytes.now ≤ length array.old }
     ensures { array.new ≡ placed at bytes.now array.old }
 {
-    bytes::copy(bytes, &mut array[at..]);
+    byte_slices::copy(bytes, &mut array[at..]);
 }

@@ -68,9 +68,9 @@ fn join_header(first: &[u8], second: &[u8]) -> [u8; HEADER_LENGTH]
     ensures { result ≡ first.now ++ second.now }
 {
     let mut header = [0; HEADER_LENGTH];
-    bytes::copy(first, &mut header);
+    byte_slices::copy(first, &mut header);
     let at = first.len();
-    bytes::copy(second, &mut header[at..]);
+    byte_slices::copy(second, &mut header[at..]);
     header
 }
 

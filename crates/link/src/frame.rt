@@ -14,7 +14,7 @@ pub const RESEND_TIME: u64 = 1000;
 
 // A frame that was sent and not acknowledged: its SEQ, how often it went out, the clock's reading when it last did, and whether a NAK
 // has come since.
-#[derive(Drop)]
+#[derive(Clone, Copy)]
 pub struct Frame {
     pub seq: Seq,
     pub transmissions: u8,

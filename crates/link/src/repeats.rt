@@ -7,7 +7,7 @@ ghost use Rattle.link.specs.Promises.{seen_of};
 use message::Seq;
 
 // What is remembered of the other side's frames: nothing at first, then the last SEQ.
-#[derive(Drop)]
+#[derive(Clone, Copy)]
 pub enum Seen {
     Nothing,
     Last(Seq),

@@ -19,7 +19,7 @@ struct Listing {
     next: Next,
 }
 
-#[derive(Drop)]
+#[derive(Clone, Copy)]
 enum Next {
     Read,
     End,

@@ -56,6 +56,6 @@ pub fn put(out: &mut [u8], at: usize, bytes: &[u8]) -> usize
     ensures { (result ≡ at + length bytes.now)
         × (take result out.new ≡ take at out.old ++ bytes.now) }
 {
-    bytes::copy(bytes, &mut out[at..]);
+    byte_slices::copy(bytes, &mut out[at..]);
     at + bytes.len()
 }

@@ -23,7 +23,7 @@ pub(crate) fn fill(store: &mut [u8], row: usize, data: &[u8])
     ensures { store.new ≡ placed (room_place row) «data».now store.old }
 {
     let at = place_of(row);
-    bytes::copy(data, &mut store[at..]);
+    byte_slices::copy(data, &mut store[at..]);
 }
 
 // Moves the first len bytes of the next room into a room.

@@ -13,7 +13,7 @@ use message::Seq;
 
 // What a search looks for: a waiting request whose time is up at a reading, the one in flight, a queued one, the one in flight with a
 // SEQ, or one that a command with these fields and this request ID answers.
-#[derive(Drop)]
+#[derive(Clone, Copy)]
 pub enum Query {
     Overdue(u64),
     Flying,

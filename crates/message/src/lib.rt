@@ -3,7 +3,7 @@
 pub mod header; // what a header may say
 
 // A sequence ID: 8 bits, apart from the 16-bit request IDs.
-#[derive(Drop)]
+#[derive(Clone, Copy)]
 pub struct Seq(pub u8);
 
 // What a writer answers: the message's length, refusal 7 or refusal 6.
@@ -15,7 +15,7 @@ pub enum Written {
 }
 
 // An item, by 01's names.
-#[derive(Drop)]
+#[derive(Clone, Copy)]
 pub enum Item {
     DamagedHeader,
     Forbidden,

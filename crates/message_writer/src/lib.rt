@@ -95,7 +95,7 @@ fn write_header(buffer: &mut [u8], kind: u8, len: usize, seq: Seq)
     ensures { buffer.new ≡ placed 0 (header kind len seq.0) buffer.old }
 {
     let syn = SYN;
-    bytes::copy(&syn, buffer);
+    byte_slices::copy(&syn, buffer);
     write_fields(&mut buffer[SYN_LENGTH..], kind, len, seq);
     write_checksum(&mut buffer[SYN_LENGTH..], FIELDS_LENGTH);
 }
@@ -116,7 +116,7 @@ fn write_body(buffer: &mut [u8], payload: &[u8])
     requires { length payload.now + 2 ≤ length buffer.old }
     ensures { buffer.new ≡ placed 0 (body payload.now) buffer.old }
 {
-    let len = bytes::copy(payload, buffer);
+    let len = byte_slices::copy(payload, buffer);
     write_checksum(buffer, len);
 }
 

@@ -153,7 +153,7 @@ fn gather(progress: Progress, line: &mut [u8], more: &[u8]) -> Progress
     if line.len() - gathered < more.len() {
         return with_next(progress, Next::Fault(Fault::LongLine));
     }
-    bytes::copy(more, &mut line[gathered..]);
+    byte_slices::copy(more, &mut line[gathered..]);
     let mut after = progress;
     after.gathered = gathered + more.len();
     after

@@ -10,7 +10,7 @@ pub fn put(out: &mut [u8], at: usize, text: &[u8]) -> usize
     requires { at + length text.now ≤ length out.old }
     ensures { Puts (length text.now) at text.now out.old out.new result }
 {
-    bytes::copy(text, &mut out[at..]);
+    byte_slices::copy(text, &mut out[at..]);
     at + text.len()
 }
 
