@@ -1,4 +1,6 @@
 // The request-row audit (document 01, "Request-row audit") over ID numbers.
+#![tactic(auto)]
+
 pub mod seen; // which IDs a walk has passed
 
 ghost use Rattle.std.specs.Prelude.{◌≡◌};

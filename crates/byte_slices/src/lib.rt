@@ -1,7 +1,7 @@
 // Bytes copied to the front of a slice, and the first byte of a kind searched in a part of one.
 #![tactic(auto)]
 
-ghost use Rattle.std.specs.Prelude.{◌≡◌, ◌++◌, ◌≤◌, length, drop};
+ghost use Rattle.std.specs.Prelude.{◌≡◌, ◌≢◌, ℕ, ◌++◌, ◌≤◌, ◌<◌, length, drop, slice_index};
 
 // Copies all of `from` to the front of `to`, whose other bytes stay, and answers how many bytes that were. Public for the crates above,
 // which see that it fits.
@@ -14,4 +14,21 @@ pub fn copy(from: &[u8], to: &mut [u8]) -> usize
     let len = from.len();
     to[..len].copy_from_slice(from);
     len
+}
+
+// The place of the first byte of the kind asked for among those from `from` up to `to`, or `to` where there is none. Public for the
+// crates above, which see that the part is one of the slice.
+// Ruled out: a later place, and one behind the part.
+pub fn find(bytes: &[u8], from: usize, to: usize, byte: u8) -> usize
+    requires { (from ≤ to) × (to ≤ length bytes.now) }
+    ensures within { (from ≤ result) × (result ≤ to) }
+    ensures before { (k : ℕ) → from ≤ k → k < result → slice_index bytes.now k ≢ byte }
+    ensures found { result < to → slice_index bytes.now result ≡ byte }
+{
+    for i in from..to {
+        if bytes[i] == byte {
+            return i;
+        }
+    }
+    to
 }

@@ -1,5 +1,7 @@
 // The functions that C programs call, with numbers and buffers only. `include/fizrahum.h` declares them.
 // A `&[u8]` and a `&[u16]` are passed as a pointer and then a length, a `&mut u8` and a `&mut usize` as a pointer.
+#![tactic(auto)]
+
 mod numbers; // the answers of the writer, the reader and the audit as numbers
 
 ghost use Rattle.std.specs.Prelude.{◌≡◌, length};

@@ -1,5 +1,7 @@
 // The checksum of the messages on the line (document 01, "Bytes on the line"): CRC-16/CCITT-FALSE over a slice of bytes.
 // What it is, bit by bit, is `specs/Checksum.antt`; laws about it are `proofs/Laws.antt`.
+#![tactic(auto)]
+
 ghost use Rattle.std.specs.Prelude.{◌≡◌};
 ghost use Rattle.checksum.specs.Checksum.{checksum_of, with_bit, with_bits, bits_of};
 

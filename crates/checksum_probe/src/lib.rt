@@ -1,5 +1,7 @@
 // The checksum bit by bit, as its definition words it, for the benchmarks alone: the library computes it by words, and nothing
 // in it calls this one. `include/fizrahum.h` does not declare it.
+#![tactic(auto)]
+
 ghost use Rattle.std.specs.Prelude.{◌≡◌};
 ghost use Rattle.checksum.specs.Checksum.{checksum_of, with_bit, with_bits, bits_of};
 

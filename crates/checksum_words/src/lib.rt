@@ -1,6 +1,8 @@
 // The checksum of the messages on the line (document 01, "Bytes on the line"): CRC-16/CCITT-FALSE over a slice of bytes.
 // What it is, bit by bit, is `specs/Checksum.antt`; laws about it are `proofs/Laws.antt`.
 // It is computed by words of eight bytes, with shifts and no table: the bytes are one number, and its remainder is the register.
+#![tactic(auto)]
+
 mod long; // words behind four words
 mod number; // bytes as one number
 mod remainder; // the register that a number leaves

@@ -2,6 +2,8 @@
 // The first request is acknowledged, and answered in two pieces; the second is never heard of, and is given up after three transmissions.
 // Its contract says each answer, ending and buffer exactly, and that its calls are a list of which demand 3 speaks. Both are shown from
 // the contracts of the four calls alone: where one of them is weakened, this crate or that of its parts, `client_parts`, is not proved.
+#![tactic(auto)]
+
 ghost use Rattle.command.specs.Promises.{fields_of};
 ghost use Rattle.client.specs.Exchange.{Exchanges};
 

@@ -1,6 +1,8 @@
 // The parts of `client`, over submit, receive and poll: a request and its frame on the line, what arrives for it, and a request of which
 // nothing is heard. Public for `client` alone. Each contract is shown from those of the calls: where one of these is weakened, this crate
 // is not proved.
+#![tactic(auto)]
+
 pub mod asking; // a request, and its frame on the line
 pub mod hearing; // what arrives for the first request
 pub mod giving_up; // the second request, of which nothing is heard

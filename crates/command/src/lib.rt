@@ -1,4 +1,6 @@
 // A command, the payload of a data frame (document 01, "Bytes on the line": "Command payload"): eight bytes in front, then its data.
+#![tactic(auto)]
+
 pub mod writer; // a command into a lent part
 pub mod reader; // a command out of a payload
 mod matching; // which fields answer which

@@ -1,5 +1,7 @@
 // What a message does, by its TYPE (document 01, "**Receive** replies and acts by item"): the word that it earns, the change that it
 // makes to the live requests, and what is remembered of the controller's frames. Nothing is changed here.
+#![tactic(auto)]
+
 ghost use Rattle.std.specs.Prelude.{◌≡◌, List, ℕ, ◌≤◌};
 ghost use Rattle.link.specs.Promises.{seen_of};
 ghost use Rattle.ledger.specs.Parts.{Ledger, live_max};

@@ -1,4 +1,6 @@
 // What an ACK and a NAK do (document 01, "**Receive** replies and acts by item"): the frame in flight is acknowledged or marked.
+#![tactic(auto)]
+
 ghost use Rattle.std.specs.Prelude.{◌≡◌, List, [], ℕ, ◌≤◌};
 ghost use Rattle.link.specs.Promises.{seen_of};
 ghost use Rattle.ledger.specs.Parts.{Ledger, live_max, oldest};

@@ -1,5 +1,7 @@
 // What data do, of either kind (document 01, "**Receive** replies and acts by item"): not a command, an event, a response or
 // unmatched.
+#![tactic(auto)]
+
 ghost use Rattle.std.specs.Prelude.{◌≡◌, ◌&&◌, List, [], ℕ, ◌≤◌, leb};
 ghost use Rattle.command.specs.Payload.{data_in};
 ghost use Rattle.link.specs.Promises.{seen_of};

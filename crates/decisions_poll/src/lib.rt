@@ -1,4 +1,6 @@
 // What a poll does: "the first that applies" (document 01, **Poll** 1 to 4). Only the live requests and the clock decide.
+#![tactic(auto)]
+
 ghost use Rattle.std.specs.Prelude.{◌≡◌, ℕ, ◌≤◌, ◌<◌};
 ghost use Rattle.link.specs.Frames as link;
 ghost use Rattle.ledger.specs.Parts.{Ledger, live_max, in_flight};

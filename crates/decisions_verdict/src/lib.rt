@@ -1,5 +1,7 @@
 // The verdict on a message (document 01, "**Receive** replies and acts by item"): the word that it earns, the change that it makes to
 // the live requests, and what is remembered of the controller's frames. The crates above judge; nothing is changed here.
+#![tactic(auto)]
+
 ghost use Rattle.std.specs.Prelude.{◌≡◌};
 ghost use Rattle.live_changes.specs.declared.Change.TheVariants as change;
 

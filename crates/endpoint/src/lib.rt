@@ -1,4 +1,6 @@
 // The host endpoint as its callers hold it (document 01, "The ledger"): numbers by value, bytes in a store that the caller lends.
+#![tactic(auto)]
+
 use command::{Fields, MAX_DATA, RequestId};
 use line::HELD_MAX;
 use link::frame::Frame;

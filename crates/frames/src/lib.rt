@@ -1,5 +1,7 @@
 // What an end of the line puts into a lent buffer: the frame of a command, and replies (document 01, **Receive**, **Poll** 3). Both
 // ends send so.
+#![tactic(auto)]
+
 ghost use Rattle.std.specs.Prelude.{[], ◌≤◌, length};
 ghost use Rattle.message.specs.Bytes.{message, total, max_len, ack, nak, data_seq};
 ghost use Rattle.command.specs.Payload.{max_data, payload};

@@ -1,5 +1,7 @@
 // What a receive that the table does not refuse does (document 01, **Receive**): the line's decision on the front of the store, a message
 // judged and its data delivered, and the change carried out. For `host_receiving`, which has refused a malformed endpoint.
+#![tactic(auto)]
+
 ghost use Rattle.std.specs.Prelude.{◌≡◌, List, ℕ, ◌+◌, ◌≤◌, length, take, drop};
 ghost use Rattle.message.specs.Bytes.{max_len};
 ghost use Rattle.message.specs.Writing.{placed};

@@ -1,4 +1,6 @@
 // What the calls answer (document 01, "The ledger"; "Refusal numbers"), each beside the endpoint that is handed back.
+#![tactic(auto)]
+
 use command::RequestId;
 use endpoint::Endpoint;
 use ledger::{Ending, Word};

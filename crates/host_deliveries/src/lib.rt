@@ -1,5 +1,7 @@
 // What a receive delivers to its caller: the reply to an item, the data of an event or a response, and the ending (document 01,
 // **Receive**).
+#![tactic(auto)]
+
 ghost use Rattle.std.specs.Prelude.{◌≡◌, List, ℕ, ◌≤◌, length};
 ghost use Rattle.message.specs.Bytes.{total};
 ghost use Rattle.message.specs.Promises.{item_of};

@@ -1,4 +1,6 @@
 // Poll (document 01, **Poll**), with the store as a slice of its length: for `host`, which lends it by its type.
+#![tactic(auto)]
+
 ghost use Rattle.std.specs.Prelude.{◌≡◌, List, ℕ, ◌≤◌, ◌<◌, length};
 ghost use Rattle.message.specs.Bytes.{total, max_len};
 ghost use Rattle.ledger.specs.Polling as ledger;

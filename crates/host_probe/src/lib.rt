@@ -1,5 +1,7 @@
 // The endpoint's calls for the benchmarks alone, many of them in a C function: an endpoint is no number and does not pass C's border.
 // `include/fizrahum.h` does not declare them. Each answers a number in which the answers of all its calls count.
+#![tactic(auto)]
+
 mod steps; // one call each, counted into the number
 
 use crate::steps::{

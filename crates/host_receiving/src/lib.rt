@@ -1,4 +1,6 @@
 // Receive (document 01, **Receive**), with the store as a slice of its length: for `host`, which lends it by its type.
+#![tactic(auto)]
+
 ghost use Rattle.std.specs.Prelude.{◌≡◌, ◌≤◌, length};
 ghost use Rattle.message.specs.Bytes.{total};
 ghost use Rattle.command.specs.Payload.{max_data};

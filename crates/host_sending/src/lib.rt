@@ -1,5 +1,7 @@
 // A frame that a poll sends (document 01, **Poll** 2 and 3): it is put into the output, and its request is in flight. For `host_polling`,
 // which has decided what is due and has refused a malformed endpoint and a short output.
+#![tactic(auto)]
+
 ghost use Rattle.std.specs.Prelude.{◌≡◌, ◌≤◌, ◌<◌, length};
 ghost use Rattle.message.specs.Bytes.{total, max_len};
 ghost use Rattle.link.specs.Promises.{frame_of};

@@ -1,4 +1,6 @@
 // Submit (document 01, **Submit**), with the store as a slice of its length: for `host`, which lends it by its type.
+#![tactic(auto)]
+
 ghost use Rattle.std.specs.Prelude.{◌≡◌, ◌≤◌, ◌<◌, length};
 ghost use Rattle.command.specs.Payload.{max_data};
 ghost use Rattle.command.specs.Promises.{fields_of};

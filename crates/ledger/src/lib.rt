@@ -1,5 +1,7 @@
 // What the host's calls must answer (document 01, "The ledger"): the definitions are in `specs/`. Here are the types that an
 // endpoint and its callers share; a request's ID and its command's fields are those of `command`.
+#![tactic(auto)]
+
 use command::{Fields, RequestId};
 
 // Why a request ended: its frame was acknowledged and no response was wanted, its response came, none came in 3,000 ms, or its

@@ -1,5 +1,7 @@
 // How many bytes an answer says that the call has put into a lent buffer (docs/SESSION-SCRIPT.md): for `runner`, which shows those
 // bytes and looks behind them.
+#![tactic(auto)]
+
 ghost use Rattle.std.specs.Prelude.{◌≡◌};
 ghost use Rattle.lent_lengths.specs.Lengths.{handed_by, reply_length, data_length, frame_length};
 

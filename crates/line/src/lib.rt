@@ -1,5 +1,7 @@
 // Held bytes and new ones become at most one item a call (document 01, "How bytes become items"): what a call gives, with its laws,
 // and what the crates above share. `line_joining` and `line_deciding` find the item, `line_receiving` has the calls.
+#![tactic(auto)]
+
 pub mod payload; // the payload of a message
 pub mod store; // bytes moved within the lent array
 
@@ -24,7 +26,7 @@ pub enum Place {
 
 // What was decided: the answer, how many new bytes it takes, the part of the array that is to be held, and where the payload of a
 // message begins. The payload stays where it stands until `settle` puts that part at the front.
-#[derive(Drop)]
+#[derive(Clone, Copy)]
 pub struct Decision {
     pub answer: Answer,
     pub taken: usize,

@@ -1,5 +1,7 @@
 // Which item held bytes and new ones decide, and what is held then (document 01, "How bytes become items"). A byte is moved only
 // where it is held: into the array, or to its front.
+#![tactic(auto)]
+
 ghost use Rattle.std.specs.Prelude.{◌≡◌, false, [], ◌+◌, ◌≤◌, length, take};
 ghost use Rattle.message.specs.Bytes.{header_length};
 ghost use Rattle.message.specs.Items.{undecided, decided, scan};

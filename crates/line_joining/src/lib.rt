@@ -1,5 +1,7 @@
 // A message of which a part is held (document 01, "How bytes become items": "Take the held bytes followed by the new ones"): new
 // bytes are put behind that part. The bytes of the array are moved once, when it is known whether SYN stays.
+#![tactic(auto)]
+
 ghost use Rattle.std.specs.Prelude.{◌≡◌, false, ◌++◌, ◌+◌, ◌-◌, ◌^◌, ◌≤◌, ◌<◌, length, take, drop};
 ghost use Rattle.message.specs.Bytes.{header_length, total, syn};
 ghost use Rattle.message.specs.Items.{undecided, len_in, scan};

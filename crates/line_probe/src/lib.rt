@@ -1,4 +1,6 @@
 // The line as a C function, for the comparisons under `tests/` and the benchmarks alone: `include/fizrahum.h` does not declare it.
+#![tactic(auto)]
+
 mod numbers; // the line's answer as numbers
 
 ghost use Rattle.line_probe.specs.Numbers.{numbers, Probed};

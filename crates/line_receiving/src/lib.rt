@@ -1,5 +1,7 @@
 // A call's item, with the bytes to be held at the front of the array (document 01, "How bytes become items": "What follows is held
 // as it is").
+#![tactic(auto)]
+
 ghost use Rattle.std.specs.Prelude.{◌≡◌, ◌+◌, ◌≤◌, length, take, drop};
 ghost use Rattle.line.specs.Receiving.{held_max};
 ghost use Rattle.line.specs.Promises.{Receives};

@@ -1,5 +1,7 @@
 // The capture lister again, held to a long damaged capture: `stdin` and `stdout` beside this folder are what the independent
 // implementation under `tests/` wrote.
+#![tactic(auto)]
+
 fn main() {
     listing::list_standard_input();
 }

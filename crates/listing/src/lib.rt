@@ -1,4 +1,6 @@
 // The capture lister (document 01, "Capture lister"): standard input to its end, a line an item, in constant memory.
+#![tactic(auto)]
+
 ghost use Rattle.std.specs.Prelude.{◌≤◌, ◌<◌, length};
 ghost use Rattle.line.specs.Receiving.{held_max};
 ghost use Rattle.listing_words.specs.Words.{decimal_limit};

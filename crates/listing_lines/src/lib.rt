@@ -1,5 +1,7 @@
 // The lines of a listing (document 01, "Capture lister") to standard output, many at a time: they wait at the front of a lent buffer
 // until it has no room for one more. For `listing`, which reads.
+#![tactic(auto)]
+
 pub mod text; // an item as a line of text
 
 ghost use Rattle.std.specs.Prelude.{◌≤◌, ◌<◌, length, take};

@@ -1,5 +1,7 @@
 // The words and numbers of a listing (document 01, "Capture lister"), each put behind the first `at` bytes of a lent buffer: for
 // `listing_lines`, which makes lines of them. Each answers where it ends.
+#![tactic(auto)]
+
 ghost use Rattle.std.specs.Prelude.{◌≡◌, ◌∷◌, [], ◌++◌, ◌+◌, ◌≤◌, ◌<◌, length, take};
 ghost use Rattle.listing_words.specs.Words.{digit as glyph, decimal_limit, decimal, word};
 

@@ -1,5 +1,7 @@
 // The changes that a call makes to the live requests of an endpoint, with their data in the rooms of its store (document 01,
 // **Submit**: "The request joins as queued."; "An ended request leaves; its room is used by the next submit.").
+#![tactic(auto)]
+
 pub mod rooms; // the data of a request in the store
 
 ghost use Rattle.std.specs.Prelude.{◌≡◌, List, [], ◌∷◌, ◌++◌, ℕ, ◌≤◌, ◌<◌, length, take, set};
@@ -15,7 +17,7 @@ use ledger::Cause;
 use rooms::{fill, move_up};
 
 // What a call does to the live requests: nothing, the one in a row turns into another state, or it leaves for a cause.
-#[derive(Drop)]
+#[derive(Clone, Copy)]
 pub enum Change {
     Nothing,
     Turn(usize, State),

@@ -1,5 +1,7 @@
 // The time to the earliest deadline of the live requests: "with the milliseconds to the earliest such deadline, or *no deadline*"
 // (document 01, **Poll** 4).
+#![tactic(auto)]
+
 ghost use Rattle.std.specs.Prelude.{◌≡◌, ◌≤◌};
 ghost use Rattle.ledger.specs.Parts.{live_max};
 ghost use Rattle.ledger.specs.Polling.{deadline_in, earlier, earliest};

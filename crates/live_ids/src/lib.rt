@@ -1,4 +1,6 @@
 // The ID that a submit issues (document 01, **Submit**: "The ID is the first one not live, from the next request ID on").
+#![tactic(auto)]
+
 ghost use Rattle.std.specs.Prelude.{◌≡◌, ◌≤◌};
 ghost use Rattle.ledger.specs.Parts.{live_max, reserved_max};
 ghost use Rattle.ledger.specs.Submitting.{id_after, is_live, first_free};

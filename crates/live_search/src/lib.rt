@@ -1,4 +1,6 @@
 // Searches among the live requests of an endpoint: "the oldest" that shows something (document 01, **Receive** and **Poll**).
+#![tactic(auto)]
+
 ghost use Rattle.std.specs.Prelude.{◌≡◌, [], ◌≤◌};
 ghost use Rattle.command.specs.Promises.{fields_of};
 ghost use Rattle.ledger.specs.Parts.{live_max};

@@ -1,5 +1,7 @@
 // The oldest request in a state (document 01, **Poll** 1 to 3), for the calls that look for one each time: what `live_search::find`
 // answers, with no query to tell apart at each row.
+#![tactic(auto)]
+
 ghost use Rattle.std.specs.Prelude.{◌≡◌, [], ◌≤◌};
 ghost use Rattle.ledger.specs.Parts.{live_max};
 ghost use Rattle.endpoint.specs.Endpoint.{request_of, rows_of};

@@ -1,6 +1,8 @@
 // Endpoints that no list of calls reaches: each breaks one clause of document 01's malformed rule, and three break none. A line each:
 // what submit, receive and poll answer, a refusal's number or `accepted`. The file `stdout` beside this folder was written from
 // document 01.
+#![tactic(auto)]
+
 mod calls; // what the three calls answer
 mod endpoints; // an endpoint at every limit, and changes of it
 

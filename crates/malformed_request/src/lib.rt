@@ -1,4 +1,6 @@
 // The malformed rule for one request (document 01, "Malformed means one of"): its ID, its data, its state.
+#![tactic(auto)]
+
 ghost use Rattle.std.specs.Prelude.{◌≡◌};
 ghost use Rattle.ledger.specs.Refusals.{is_outside};
 ghost use Rattle.endpoint.specs.Endpoint.{state_of};

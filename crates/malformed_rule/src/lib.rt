@@ -1,4 +1,6 @@
 // The malformed rule (document 01, "Malformed means one of"): R, the rows of live requests, the next ID, the bytes held.
+#![tactic(auto)]
+
 ghost use Rattle.std.specs.Prelude.{◌≡◌, ◌||◌, ◌+◌, ◌≤◌, drop};
 ghost use Rattle.ledger.specs.Parts.{live_max};
 ghost use Rattle.ledger.specs.Submitting.{is_live};

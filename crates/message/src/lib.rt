@@ -1,5 +1,7 @@
 // One message of the Surface Serial Hub protocol (document 01, "Bytes on the line", "How bytes become items"): what it is, and what
 // its writer and its reader answer. They are crates of their own, `message_writer` and `message_reader`.
+#![tactic(auto)]
+
 pub mod header; // what a header may say
 
 // A sequence ID: 8 bits, apart from the 16-bit request IDs.

@@ -1,4 +1,6 @@
 // The message reader (document 01, "How bytes become items"): the first item of a lent slice. It holds nothing.
+#![tactic(auto)]
+
 ghost use Rattle.std.specs.Prelude.{◌≡◌, ◌+◌, ◌≤◌, ◌<◌, ◌^◌, eqb, length, get_or, take};
 ghost use Rattle.checksum.specs.Checksum.{checksum_of};
 ghost use Rattle.message.specs.Bytes.{from_le16, header_length, payload_at};

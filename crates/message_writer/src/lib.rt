@@ -1,4 +1,6 @@
 // The message writer (document 01, "Bytes on the line"): a message into a lent buffer.
+#![tactic(auto)]
+
 ghost use Rattle.std.specs.Prelude.{◌≡◌, not, ◌+◌, ◌≤◌, ltb, length, take};
 ghost use Rattle.checksum.specs.Checksum.{checksum_of};
 ghost use Rattle.message.specs.Bytes.{le16, fields, header, header_length, payload_at, body, message, total, max_len};

@@ -1,4 +1,6 @@
 // The request-row audit (document 01, "Request-row audit") over request records: the row is lent, and walked by reference.
+#![tactic(auto)]
+
 ghost use Rattle.std.specs.Prelude.{◌≡◌, ◌≤◌, take};
 ghost use Rattle.audit.specs.Audit.{audit};
 ghost use Rattle.audit.specs.Promises.{position_of};

@@ -1,5 +1,7 @@
 // Which calls the table refuses, in its order (document 01, "Refusal numbers, tested in this order"). The checks are public for the crate
 // of the calls alone.
+#![tactic(auto)]
+
 ghost use Rattle.std.specs.Prelude.{◌≡◌, ◌||◌, [], ◌∷◌, eqb, ltb};
 ghost use Rattle.message.specs.Bytes.{total, max_len};
 ghost use Rattle.command.specs.Payload.{max_data};

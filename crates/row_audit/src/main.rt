@@ -1,5 +1,7 @@
 // The request-row audit on sample rows: a line each, the IDs, R and the answer, the first unsound position or `none`; then on every
 // row of three records over a few IDs. The independent implementation wrote the file `stdout` beside this folder.
+#![tactic(auto)]
+
 mod every; // every row of three records
 mod print; // the parts of a line
 mod records; // rows of request records

@@ -103,7 +103,7 @@ fn run_piece(
     let mut progress = progress;
     let mut rest = piece;
     loop {
-        let end = bytes::scan::find(rest, 0, rest.len(), b'\n');
+        let end = byte_slices::find(rest, 0, rest.len(), b'\n');
         progress = gather(progress, line, &rest[..end]);
         if rest.len() <= end {
             return progress;

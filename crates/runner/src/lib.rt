@@ -1,4 +1,6 @@
 // A script of calls on one endpoint (docs/SESSION-SCRIPT.md): standard input to its end, a line an answer, in constant memory.
+#![tactic(auto)]
+
 mod gathering; // standard input as lines
 mod running; // the calls of a script on one endpoint
 mod lent; // the buffers that a call is lent

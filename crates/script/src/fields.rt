@@ -22,7 +22,7 @@ pub(crate) struct Field {
 pub(crate) fn first_end(line: &[u8]) -> usize
     ensures { result ≤ length line.now }
 {
-    bytes::scan::find(line, 0, line.len(), b' ')
+    byte_slices::find(line, 0, line.len(), b' ')
 }
 
 // The field behind a cursor.
@@ -38,7 +38,7 @@ pub(crate) fn next_field(line: &[u8], cursor: Cursor) -> Field
         return no_field(Fault::MissingField);
     }
     let from = at + 1;
-    let to = bytes::scan::find(line, from, line.len(), b' ');
+    let to = byte_slices::find(line, from, line.len(), b' ');
     Field {
         from,
         to,

@@ -1,5 +1,7 @@
 // The bytes that a field of a script names, as pairs of lowercase hexadecimal digits (docs/SESSION-SCRIPT.md): for `script`, which
 // finds the field. What can be wrong with a script stands here too, since `decode` answers it.
+#![tactic(auto)]
+
 pub mod faults; // what is wrong with a script
 
 ghost use Rattle.std.specs.Prelude.{◌≡◌, ◌≤◌, ◌<◌, length, take};

@@ -1,5 +1,7 @@
 // Words, numbers and bytes as text, each put behind the first `at` bytes of a lent buffer: for the lines of a transcript. Each
 // answers where it ends, and asks for room, which the caller has seen to.
+#![tactic(auto)]
+
 ghost use Rattle.std.specs.Prelude.{◌≡◌, ◌∷◌, [], ◌++◌, ◌+◌, ◌/◌, ◌%◌, ◌≤◌, ◌<◌, length, take};
 ghost use Rattle.io.specs.Digits.{hex_digit_ascii};
 ghost use Rattle.texts.specs.Text.{ascii, decimal, digits_max, named, spaced_room, pairs, shown_as, pairs_room, Puts};

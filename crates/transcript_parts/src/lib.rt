@@ -1,5 +1,7 @@
 // The parts of a line that tell whom a command addresses and how a request ended, as text: for `transcript`. Each is put behind the
 // first `at` bytes of a lent buffer, and answers where it ends.
+#![tactic(auto)]
+
 ghost use Rattle.std.specs.Prelude.{◌+◌, ◌≤◌, length};
 ghost use Rattle.texts.specs.Text.{Puts};
 ghost use Rattle.transcript_parts.specs.Parts.{address_text, fields_text, cause_text, ending_text};

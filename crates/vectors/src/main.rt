@@ -1,5 +1,7 @@
 // Prints published checksum vectors, a line each: the bytes in hexadecimal (`-` for none), then their checksum.
 // The file `stdout` beside this folder is what the independent implementation under `tests/` wrote for the same bytes.
+#![tactic(auto)]
+
 use libc::STDOUT_FILENO;
 
 fn main() {
