@@ -4,11 +4,9 @@ use mathlib.Core.Bool.{true, false, ◌||◌, ◌&&◌}
 use mathlib.Core.Path.{◌≡◌, sym, ◌∙◌}
 use native.Mathlib.Omega.{arith}
 use lib.Dec.{eqb, leb}
-use borrow.Author.Rules.{rules}
 use borrow.Author.Tests.{le-leb, lt-leb}
 use Rattle.message.specs.Bytes.{ack, nak, data_seq, data_nsq, max_len, allowed}
-use Rattle.message.proofs.header.is_allowed.Statement.{statement}
-use Rattle.message.proofs.header.is_allowed.Tie as tie
+use Rattle.message.proofs.header.is_allowed.Goals as goal
 
 -- the cases of `allowed`
 control : (t n : ℕ) → (eqb t ack || eqb t nak) ≡ true → allowed t n ≡ eqb n 0
@@ -30,31 +28,20 @@ other : (t n : ℕ) → (eqb t ack || eqb t nak) ≡ false → (eqb t data_seq |
 unfolding allowed
 other t n h k = rw (h, k)
 
-is-one-of-requires : tie.Need-is-one-of-requires
-is-one-of-requires c κs = search rules
+pub returns-then-is_one_of : goal.returns-then-is_one_of
+returns-then-is_one_of c = sym (control _ _ (sym c.is_one_of.ensures ∙ c.if-is_one_of.true))
 
-returns : tie.Need-returns
-returns c = sym (control _ _ (sym c.before.is-one-of.ensures ∙ c.if1.true))
+pub returns-then-len-ge1 : goal.returns-then-len-ge1
+returns-then-len-ge1 c =
+    filled _ _ (sym c.is_one_of.ensures ∙ c.if-is_one_of.false)
+    (sym c.is_one_of-2.ensures ∙ c.if-is_one_of-2.true) (omega arith)
 
-is-one-of-requires-2 : tie.Need-is-one-of-requires-2
-is-one-of-requires-2 c κs = search rules
+pub returns-else-len-ge1 : goal.returns-else-len-ge1
+returns-else-len-ge1 c =
+    empty _ _ (sym c.is_one_of.ensures ∙ c.if-is_one_of.false)
+    (sym c.is_one_of-2.ensures ∙ c.if-is_one_of-2.true) (omega arith)
 
-returns-2 : tie.Need-returns-2
-returns-2 c =
-    filled _ _ (sym c.before.before.before.before.is-one-of.ensures ∙ c.before.before.before.if1.false)
-    (sym c.before.before.is-one-of2.ensures ∙ c.before.if2.true) (omega arith)
-
-returns-3 : tie.Need-returns-3
-returns-3 c =
-    empty _ _ (sym c.before.before.before.before.is-one-of.ensures ∙ c.before.before.before.if1.false)
-    (sym c.before.before.is-one-of2.ensures ∙ c.before.if2.true) (omega arith)
-
-returns-4 : tie.Need-returns-4
-returns-4 c =
-    other _ _ (sym c.before.before.before.is-one-of.ensures ∙ c.before.before.if1.false)
-    (sym c.before.is-one-of2.ensures ∙ c.if2.false)
-
-pub is-allowed-spec : {M : Type 1} → statement M
-is-allowed-spec =
-    tie.close
-    (tie.spec is-one-of-requires returns is-one-of-requires-2 returns-2 returns-3 returns-4)
+pub returns : goal.returns
+returns c =
+    other _ _ (sym c.is_one_of.ensures ∙ c.if-is_one_of.false)
+    (sym c.is_one_of-2.ensures ∙ c.if-is_one_of-2.false)
