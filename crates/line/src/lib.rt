@@ -18,7 +18,7 @@ pub enum Answer {
 }
 
 // Where the payload of a message begins: at this place of the lent array, or of the new bytes.
-#[derive(Drop)]
+#[derive(Clone, Copy)]
 pub enum Place {
     Held(usize),
     New(usize),

@@ -38,7 +38,7 @@ loop-rest-preserved c =
     let one = length-drop 1 rest in
     let walked = subst (Walked a.reserved a.ids.now l.seen l.i) (drop-cons rest 0 0 (omega arith)) l.invariant.1 in
     let next = walk-goes-on a.reserved a.ids.now l.seen l.i (get_or rest 0 0) (drop 1 rest) walked _ _ c.is_unsound.ensures c.if-is_unsound.false in
-    subst (λ (k : List ℕ). (l.i + 1 + length k ≡ length a.ids.now) × Walked a.reserved a.ids.now c.is_unsound.new.1.1.0 (l.i + 1) k)
+    subst (λ (k : List ℕ). (l.i + 1 + length k ≡ length a.ids.now) × Walked a.reserved a.ids.now c.is_unsound.new.seen (l.i + 1) k)
     (sym (tail rest))
     (omega arith, next)
 

@@ -17,10 +17,10 @@ returns c =
     a.reserved
     a.id
     a.seen.now
-    m.new.1.0
+    m.new.seen
     m.result
     (sym c.is_reserved.ensures ∙ c.if-is_reserved.false)
     start.requires
-    start.well-formed.0.1
+    start.well_formed.0.1
     m.ensures.0
     m.ensures.1

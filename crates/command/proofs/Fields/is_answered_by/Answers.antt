@@ -1,0 +1,20 @@
+-- `command::Fields::is_answered_by` meets its contract: each `return` is a test of `answers`, in their order.
+use mathlib.Core.Path.{sym}
+use native.Mathlib.Omega.{arith}
+use Rattle.command.proofs.Matches.{other-tc, other-cid, other-iid, other-tid, last-test}
+use Rattle.command.proofs.Fields.is_answered_by.Goals as goal
+
+pub returns-then-self-other : goal.returns-then-self-other
+returns-then-self-other c = sym (other-tc _ _ (omega arith))
+
+pub returns-then-self-other-2 : goal.returns-then-self-other-2
+returns-then-self-other-2 c = sym (other-cid _ _ (omega arith))
+
+pub returns-then-self-other-3 : goal.returns-then-self-other-3
+returns-then-self-other-3 c = sym (other-iid _ _ (omega arith))
+
+pub returns-then-self-other-4 : goal.returns-then-self-other-4
+returns-then-self-other-4 c = sym (other-tid _ _ (omega arith))
+
+pub returns : goal.returns
+returns c = sym (last-test _ _ (omega arith) (omega arith) (omega arith) (omega arith))

@@ -1,0 +1,101 @@
+-- `message_reader::apply_rules` meets its contract: each `return` is a case of `rules`, with the tests that led to it.
+use Prim.Native.Nat.{ℕ, ◌+◌}
+use mathlib.Core.List.{List}
+use mathlib.Core.Path.{◌≡◌, sym, ◌∙◌}
+use native.Mathlib.Omega.{arith}
+use lib.Dec.{eqb}
+use lib.ListN.{get_or, take}
+use lib.Seq.{get_or-drop}
+use borrow.Author.Tests.{not-true, not-false}
+use Rattle.checksum.specs.Checksum.{checksum_of}
+use Rattle.message.specs.Bytes.{from_le16, header_length}
+use Rattle.message.specs.Items.{len_in, payload_in, payload_checksum_in}
+use Rattle.message.proofs.Buffer.{lent_from, tail}
+use Rattle.message.proofs.Rules.{rule-1, rule-2, rule-3, rule-4, rule-5, rule-6}
+use Rattle.message_reader.proofs.apply_rules.Goals as goal
+
+-- what is compared behind the header
+compared : (n : ℕ) (xs : List ℕ) → n ≡ len_in xs
+    → eqb (from_le16 (get_or (lent_from header_length xs) n 0) (get_or (lent_from header_length xs) (n + 1) 0))
+    (checksum_of (take n (lent_from header_length xs)))
+    ≡ eqb (payload_checksum_in xs) (checksum_of (payload_in xs))
+compared n xs count =
+    let next : header_length + (n + 1) ≡ header_length + n + 1 = omega arith in
+    rw (tail header_length xs, get_or-drop header_length xs n 0, get_or-drop header_length xs (n + 1) 0, next, count)
+
+pub returns-then-rest-lt-HEADER_LENGTH : goal.returns-then-rest-lt-HEADER_LENGTH
+returns-then-rest-lt-HEADER_LENGTH c =
+    let a = c.args in
+    sym (rule-1 a.dropped a.rest.now (omega arith))
+
+pub returns-then-not-sound : goal.returns-then-not-sound
+returns-then-not-sound c =
+    let fine = c in
+    let len = fine in
+    let sound = len in
+    let a = sound.args in
+    c.found.ensures
+    ∙ sym
+    (rule-2 a.dropped a.rest.now (omega arith)
+    (sym sound.header_is_sound-sound.ensures ∙ not-true sound.header_is_sound-sound.result c.if-not-sound.true))
+
+pub returns-then-not-fine : goal.returns-then-not-fine
+returns-then-not-fine c =
+    let fine = c in
+    let len = fine in
+    let sound = len in
+    let a = sound.args in
+    c.found-then-not-fine.ensures
+    ∙ sym
+    (rule-3 a.dropped a.rest.now (omega arith)
+    (sym sound.header_is_sound-sound.ensures ∙ not-false sound.header_is_sound-sound.result c.if-not-sound.false)
+    (rw len.len_in-len.ensures.0 at (sym fine.is_allowed-fine.ensures ∙ not-true fine.is_allowed-fine.result c.if-not-fine.true)))
+
+pub returns-then-rest-total : goal.returns-then-rest-total
+returns-then-rest-total c =
+    let passed = c in
+    let fine = passed in
+    let len = fine in
+    let sound = len in
+    let a = sound.args in
+    sym
+    (rule-4 a.dropped a.rest.now (omega arith)
+    (sym sound.header_is_sound-sound.ensures ∙ not-false sound.header_is_sound-sound.result passed.if-not-sound.false)
+    (rw len.len_in-len.ensures.0 at (sym fine.is_allowed-fine.ensures ∙ not-false fine.is_allowed-fine.result passed.if-not-fine.false))
+    (omega (arith, len.len_in-len.ensures.0, c.total_length-total.ensures)))
+
+pub returns-then-not-payload_is_sound : goal.returns-then-not-payload_is_sound
+returns-then-not-payload_is_sound c =
+    let body = c in
+    let passed = body in
+    let fine = passed in
+    let len = fine in
+    let sound = len in
+    let a = sound.args in
+    c.found-then-not-payload_is_sound.ensures
+    ∙ sym
+    (rule-5 a.dropped a.rest.now (omega arith)
+    (sym sound.header_is_sound-sound.ensures ∙ not-false sound.header_is_sound-sound.result passed.if-not-sound.false)
+    (rw len.len_in-len.ensures.0 at (sym fine.is_allowed-fine.ensures ∙ not-false fine.is_allowed-fine.result passed.if-not-fine.false))
+    (omega (arith, len.len_in-len.ensures.0, body.total_length-total.ensures))
+    (sym (compared _ a.rest.now len.len_in-len.ensures.0) ∙ sym body.payload_is_sound.ensures
+    ∙ not-true body.payload_is_sound.result c.if-not-payload_is_sound.true))
+
+pub returns : goal.returns
+returns c =
+    let body = c in
+    let count = body in
+    let passed = count in
+    let fine = passed in
+    let len = fine in
+    let sound = len in
+    let a = sound.args in
+    c.found-2.ensures
+    ∙ rw (count.total_length-total.ensures, len.len_in-len.ensures.0)
+    (sym
+    (rule-6 a.dropped a.rest.now (omega arith)
+    (sym sound.header_is_sound-sound.ensures ∙ not-false sound.header_is_sound-sound.result passed.if-not-sound.false)
+    (rw len.len_in-len.ensures.0 at (sym fine.is_allowed-fine.ensures ∙ not-false fine.is_allowed-fine.result passed.if-not-fine.false))
+    (omega (arith, len.len_in-len.ensures.0, count.total_length-total.ensures))
+    (sym (compared _ a.rest.now len.len_in-len.ensures.0) ∙ sym body.payload_is_sound.ensures
+    ∙ not-false body.payload_is_sound.result c.if-not-payload_is_sound.false)))
