@@ -37,7 +37,7 @@ returns-then-not-sound c =
     c.found.ensures
     ∙ sym
     (rule-2 a.dropped a.rest.now (omega arith)
-    (sym sound.header_is_sound-sound.ensures ∙ not-true sound.header_is_sound-sound.result c.if-not-sound.true))
+    (sym sound.header_is_sound-sound.ensures ∙ c.if-not-sound.true))
 
 pub returns-then-not-fine : goal.returns-then-not-fine
 returns-then-not-fine c =
@@ -48,8 +48,8 @@ returns-then-not-fine c =
     c.found-then-not-fine.ensures
     ∙ sym
     (rule-3 a.dropped a.rest.now (omega arith)
-    (sym sound.header_is_sound-sound.ensures ∙ not-false sound.header_is_sound-sound.result c.if-not-sound.false)
-    (rw len.len_in-len.ensures.0 at (sym fine.is_allowed-fine.ensures ∙ not-true fine.is_allowed-fine.result c.if-not-fine.true)))
+    (sym sound.header_is_sound-sound.ensures ∙ c.if-not-sound.false)
+    (rw len.len_in-len.ensures.0 at (sym fine.is_allowed-fine.ensures ∙ c.if-not-fine.true)))
 
 pub returns-then-rest-total : goal.returns-then-rest-total
 returns-then-rest-total c =
@@ -79,7 +79,7 @@ returns-then-not-payload_is_sound c =
     (rw len.len_in-len.ensures.0 at (sym fine.is_allowed-fine.ensures ∙ not-false fine.is_allowed-fine.result passed.if-not-fine.false))
     (omega (arith, len.len_in-len.ensures.0, body.total_length-total.ensures))
     (sym (compared _ a.rest.now len.len_in-len.ensures.0) ∙ sym body.payload_is_sound.ensures
-    ∙ not-true body.payload_is_sound.result c.if-not-payload_is_sound.true))
+    ∙ c.if-not-payload_is_sound.true))
 
 pub returns : goal.returns
 returns c =
@@ -98,4 +98,4 @@ returns c =
     (rw len.len_in-len.ensures.0 at (sym fine.is_allowed-fine.ensures ∙ not-false fine.is_allowed-fine.result passed.if-not-fine.false))
     (omega (arith, len.len_in-len.ensures.0, count.total_length-total.ensures))
     (sym (compared _ a.rest.now len.len_in-len.ensures.0) ∙ sym body.payload_is_sound.ensures
-    ∙ not-false body.payload_is_sound.result c.if-not-payload_is_sound.false)))
+    ∙ c.if-not-payload_is_sound.false)))

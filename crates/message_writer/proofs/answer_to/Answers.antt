@@ -10,20 +10,20 @@ use Rattle.message_writer.proofs.answer_to.Goals as goal
 pub returns-then-not-sound : goal.returns-then-not-sound
 returns-then-not-sound c =
     let sound = c.is_writable-sound in
-    sym (says_7 _ _ _ _ _ (sym sound.ensures ∙ not-true sound.result c.if-not-sound.true))
+    sym (says_7 _ _ _ _ _ (sym sound.ensures ∙ c.if-not-sound.true))
 
 pub returns-then-not-fits : goal.returns-then-not-fits
 returns-then-not-fits c =
     let sound = c.is_writable-sound in
     let fits = c.has_room-fits in
     sym
-    (says_6 _ _ _ _ _ (sym sound.ensures ∙ not-false sound.result c.if-not-sound.false)
-    (not-false _ (sym fits.ensures ∙ not-true fits.result c.if-not-fits.true)))
+    (says_6 _ _ _ _ _ (sym sound.ensures ∙ c.if-not-sound.false)
+    (not-false _ (sym fits.ensures ∙ c.if-not-fits.true)))
 
 pub total_length-requires : goal.total_length-requires
 total_length-requires c =
     let sound = c.is_writable-sound in
-    omega (arith, writable_short _ _ _ (sym sound.ensures ∙ not-false sound.result c.if-not-sound.false))
+    omega (arith, writable_short _ _ _ (sym sound.ensures ∙ c.if-not-sound.false))
 
 pub returns : goal.returns
 returns c =
@@ -31,5 +31,5 @@ returns c =
     let fits = c.has_room-fits in
     ap accepted c.total_length.ensures
     ∙ sym
-    (says_length _ _ _ _ _ (sym sound.ensures ∙ not-false sound.result c.if-not-sound.false)
-    (not-true _ (sym fits.ensures ∙ not-false fits.result c.if-not-fits.false)))
+    (says_length _ _ _ _ _ (sym sound.ensures ∙ c.if-not-sound.false)
+    (not-true _ (sym fits.ensures ∙ c.if-not-fits.false)))
