@@ -6,7 +6,6 @@ use native.Mathlib.Omega.{arith}
 use lib.Dec.{eqb}
 use lib.ListN.{get_or, take}
 use lib.Seq.{get_or-drop}
-use borrow.Author.Tests.{not-true, not-false}
 use Rattle.checksum.specs.Checksum.{checksum_of}
 use Rattle.message.specs.Bytes.{from_le16, header_length}
 use Rattle.message.specs.Items.{len_in, payload_in, payload_checksum_in}
@@ -30,72 +29,51 @@ returns-then-rest-lt-HEADER_LENGTH c =
 
 pub returns-then-not-sound : goal.returns-then-not-sound
 returns-then-not-sound c =
-    let fine = c in
-    let len = fine in
-    let sound = len in
-    let a = sound.args in
+    let a = c.args in
     c.found.ensures
     ∙ sym
     (rule-2 a.dropped a.rest.now (omega arith)
-    (sym sound.header_is_sound-sound.ensures ∙ c.if-not-sound.true))
+    (sym c.header_is_sound-sound.ensures ∙ c.if-not-sound.true))
 
 pub returns-then-not-fine : goal.returns-then-not-fine
 returns-then-not-fine c =
-    let fine = c in
-    let len = fine in
-    let sound = len in
-    let a = sound.args in
+    let a = c.args in
     c.found-then-not-fine.ensures
     ∙ sym
     (rule-3 a.dropped a.rest.now (omega arith)
-    (sym sound.header_is_sound-sound.ensures ∙ c.if-not-sound.false)
-    (rw len.len_in-len.ensures.0 at (sym fine.is_allowed-fine.ensures ∙ c.if-not-fine.true)))
+    (sym c.header_is_sound-sound.ensures ∙ c.if-not-sound.false)
+    (rw c.len_in-len.ensures.0 at (sym c.is_allowed-fine.ensures ∙ c.if-not-fine.true)))
 
 pub returns-then-rest-total : goal.returns-then-rest-total
 returns-then-rest-total c =
-    let passed = c in
-    let fine = passed in
-    let len = fine in
-    let sound = len in
-    let a = sound.args in
+    let a = c.args in
     sym
     (rule-4 a.dropped a.rest.now (omega arith)
-    (sym sound.header_is_sound-sound.ensures ∙ not-false sound.header_is_sound-sound.result passed.if-not-sound.false)
-    (rw len.len_in-len.ensures.0 at (sym fine.is_allowed-fine.ensures ∙ not-false fine.is_allowed-fine.result passed.if-not-fine.false))
-    (omega (arith, len.len_in-len.ensures.0, c.total_length-total.ensures)))
+    (sym c.header_is_sound-sound.ensures ∙ c.if-not-sound.false)
+    (rw c.len_in-len.ensures.0 at (sym c.is_allowed-fine.ensures ∙ c.if-not-fine.false))
+    (omega (arith, c.len_in-len.ensures.0, c.total_length-total.ensures)))
 
 pub returns-then-not-payload_is_sound : goal.returns-then-not-payload_is_sound
 returns-then-not-payload_is_sound c =
-    let body = c in
-    let passed = body in
-    let fine = passed in
-    let len = fine in
-    let sound = len in
-    let a = sound.args in
+    let a = c.args in
     c.found-then-not-payload_is_sound.ensures
     ∙ sym
     (rule-5 a.dropped a.rest.now (omega arith)
-    (sym sound.header_is_sound-sound.ensures ∙ not-false sound.header_is_sound-sound.result passed.if-not-sound.false)
-    (rw len.len_in-len.ensures.0 at (sym fine.is_allowed-fine.ensures ∙ not-false fine.is_allowed-fine.result passed.if-not-fine.false))
-    (omega (arith, len.len_in-len.ensures.0, body.total_length-total.ensures))
-    (sym (compared _ a.rest.now len.len_in-len.ensures.0) ∙ sym body.payload_is_sound.ensures
+    (sym c.header_is_sound-sound.ensures ∙ c.if-not-sound.false)
+    (rw c.len_in-len.ensures.0 at (sym c.is_allowed-fine.ensures ∙ c.if-not-fine.false))
+    (omega (arith, c.len_in-len.ensures.0, c.total_length-total.ensures))
+    (sym (compared _ a.rest.now c.len_in-len.ensures.0) ∙ sym c.payload_is_sound.ensures
     ∙ c.if-not-payload_is_sound.true))
 
 pub returns : goal.returns
 returns c =
-    let body = c in
-    let count = body in
-    let passed = count in
-    let fine = passed in
-    let len = fine in
-    let sound = len in
-    let a = sound.args in
+    let a = c.args in
     c.found-2.ensures
-    ∙ rw (count.total_length-total.ensures, len.len_in-len.ensures.0)
+    ∙ rw (c.total_length-total.ensures, c.len_in-len.ensures.0)
     (sym
     (rule-6 a.dropped a.rest.now (omega arith)
-    (sym sound.header_is_sound-sound.ensures ∙ not-false sound.header_is_sound-sound.result passed.if-not-sound.false)
-    (rw len.len_in-len.ensures.0 at (sym fine.is_allowed-fine.ensures ∙ not-false fine.is_allowed-fine.result passed.if-not-fine.false))
-    (omega (arith, len.len_in-len.ensures.0, count.total_length-total.ensures))
-    (sym (compared _ a.rest.now len.len_in-len.ensures.0) ∙ sym body.payload_is_sound.ensures
+    (sym c.header_is_sound-sound.ensures ∙ c.if-not-sound.false)
+    (rw c.len_in-len.ensures.0 at (sym c.is_allowed-fine.ensures ∙ c.if-not-fine.false))
+    (omega (arith, c.len_in-len.ensures.0, c.total_length-total.ensures))
+    (sym (compared _ a.rest.now c.len_in-len.ensures.0) ∙ sym c.payload_is_sound.ensures
     ∙ c.if-not-payload_is_sound.false)))

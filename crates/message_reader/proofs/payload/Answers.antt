@@ -7,6 +7,7 @@ use native.Mathlib.Omega.{arith}
 use lib.ListN.{take, drop}
 use denote.Enum.Declared.{tag_of}
 use types.Run.{OneOf}
+use borrow.Enum.Refused.{opened}
 use Rattle.message.specs.declared.Reading.TheVariants.{Decided}
 use Rattle.message.specs.declared.Reading.{Reading}
 use Rattle.message.specs.declared.Item.TheVariants.{DamagedHeader, Forbidden, DamagedPayload, Message}
@@ -33,11 +34,10 @@ some s i n r t len q xs p told shown h = rw (told, shown) h
 pub returns-in_default-item : goal.returns-in_default-item
 returns-in_default-item c =
     let a = c.args in
-    let told = c.reading-1.given in
-    rw told.1 (none told.0.0 told.0.1.0 told.0.1.1.0 a.bytes.now c.in_default-item.keys2)
+    rw c.in-Decided.is (none c.in-Decided.item c.in-Decided.dropped c.in-Decided.removed a.bytes.now (opened c.in_default-item.in_default-item-own.keys2))
 
 pub returns : goal.returns
 returns c =
     let a = c.args in
-    some _ _ _ _ _ _ _ a.bytes.now _ c.reading-1.given.1
-    c.item-1.given.1 c.after_header.ensures
+    some _ _ _ _ _ _ _ a.bytes.now _ c.in-Decided.is
+    c.in-Message.is c.after_header.ensures

@@ -3,7 +3,6 @@ use Prim.Native.Nat.{ℕ}
 use mathlib.Core.List.{List}
 use mathlib.Core.Path.{◌≡◌, ◌∙◌}
 use native.Mathlib.Omega.{arith}
-use borrow.Author.Rules.{rules}
 use Rattle.message.specs.Items.{Scan, dropped, rules, scan}
 use Rattle.message.proofs.Buffer.{lent_from, tail}
 use Rattle.message.proofs.Dropping.{dropped_within}

@@ -6,6 +6,7 @@ use mathlib.Core.Path.{◌≡◌, refl}
 use native.Mathlib.Omega.{arith}
 use denote.Enum.Declared.{tag_of}
 use types.Run.{OneOf}
+use borrow.Enum.Refused.{opened}
 use Rattle.message.specs.declared.Item.{Item}
 use Rattle.message.specs.declared.Item.TheVariants.{DamagedHeader, Forbidden, DamagedPayload, Message}
 use Rattle.message.specs.contracts.Item.{the_type}
@@ -25,20 +26,14 @@ none (Message t q len) p xs ys k =
 pub returns-in_default-item : goal.returns-in_default-item
 returns-in_default-item c =
     let a = c.args in
-    rw c.answer-1.given.1
-    (none c.answer-1.given.0.0 a.decision.payload a.array.now a.new.now
-    c.in_default-item.keys2)
+    rw c.in-One.is
+    (none c.in-One.item a.decision.payload a.array.now a.new.now
+    (opened c.in_default-item.in_default-item-own.keys2))
 
 pub returns-in-Held : goal.returns-in-Held
 returns-in-Held c =
-    let place = c in
-    let item = place in
-    let answer = item in
-    rw (answer.answer-1.given.1, item.item-1.given.1, place.place-1.given.1) c.part.ensures
+    rw (c.in-One.is, c.in-Message.is, c.in-Held.is) c.part.ensures
 
 pub returns-in-New : goal.returns-in-New
 returns-in-New c =
-    let place = c in
-    let item = place in
-    let answer = item in
-    rw (answer.answer-1.given.1, item.item-1.given.1, place.place-in-New-1.given.1) c.part-in-New.ensures
+    rw (c.in-One.is, c.in-Message.is, c.in-New.is) c.part-in-New.ensures

@@ -8,9 +8,13 @@ use Rattle.message.proofs.Buffer.{standing}
 use Rattle.line.proofs.Moving.{moved, moved_none, moved-next}
 use Rattle.line.proofs.store.move_to_front.Goals as goal
 
+-- what the loop knows when so many are moved
+abbrev Moved : (l : List ℕ) (from count : ℕ) (a : List ℕ) (i : ℕ) → Type 0
+Moved l from count a i = (i ≤ count) × (length a ≡ length l) × (a ≡ moved from i l)
+
 -- one byte more
-step : (from count i : ℕ) (l a : List ℕ) → i < count → from + count ≤ length l → invariant-loop l from count 0 a i
-    → invariant-loop l from count 0 (set a i (get_or a (from + i) 0)) (i + 1)
+step : (from count i : ℕ) (l a : List ℕ) → i < count → from + count ≤ length l → Moved l from count a i
+    → Moved l from count (set a i (get_or a (from + i) 0)) (i + 1)
 step from count i l a more within inv =
     let one : i + 1 ≡ suc i = omega arith in
     let next : set a i (get_or a (from + i) 0) ≡ moved from (i + 1) l =

@@ -4,4 +4,4 @@ use Rattle.link.proofs.Laws.{after_wraps}
 use Rattle.link.proofs.sequence.next.Goals as goal
 
 pub returns : goal.returns
-returns c = c.wrapping_add_u8.ensures ∙ sym (after_wraps c.args.seq.0 (omega arith))
+returns c = c.wrapping_add_u8.ensures.value ∙ sym (after_wraps c.args.seq.0 (omega arith))

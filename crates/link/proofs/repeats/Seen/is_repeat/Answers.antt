@@ -17,7 +17,7 @@ unfolding is_repeat
 last-seen s last seq h = rw h
 
 pub returns-in-Nothing : goal.returns-in-Nothing
-returns-in-Nothing c = nothing_seen _ _ c.enum_told-1.given.1
+returns-in-Nothing c = nothing_seen _ _ c.in-Nothing.is
 
 pub returns-in-Last : goal.returns-in-Last
-returns-in-Last c = last-seen _ _ _ c.self-1.given.1
+returns-in-Last c = last-seen _ _ _ c.in-Last.is
