@@ -5,7 +5,6 @@ use mathlib.Core.Path.{◌≡◌, ◌∙◌}
 use native.Mathlib.Omega.{arith}
 use lib.ListN.{length, take, drop, length-append, length-drop}
 use lib.Seq.{length-take-le}
-use borrow.Author.Rules.{rules}
 use Rattle.message.specs.Items.{undecided, scan}
 use Rattle.message.specs.Writing.{placed}
 use Rattle.message.proofs.Buffer.{through-placed}
@@ -15,8 +14,7 @@ use Rattle.line.specs.declared.Answer.TheVariants.{More}
 use Rattle.line.specs.declared.Decision.{Decision}
 use Rattle.line.proofs.Gives.{gives_more, front_placed}
 use Rattle.line.proofs.Moving.{moved, length_moved}
-use Rattle.line_joining.proofs.all_wait.Statement.{statement}
-use Rattle.line_joining.proofs.all_wait.Tie as tie
+use Rattle.line_joining.proofs.all_wait.Goals as goal
 
 waits : (d : Decision) (from kept : ℕ) (array new x exit : List ℕ) → length array ≡ held_max → from + kept ≤ held_max
     → kept + length new ≤ held_max → scan (take kept (drop from array) ++ new) ≡ undecided 0
@@ -31,35 +29,9 @@ waits d from kept array new x exit size within fits none said one two =
     gives_more d held new exit {e = 0} none (said.0, said.1, said.2, rw sum said.3)
     (rw (sum, two) (through-placed kept new x (omega arith) ∙ rw front))
 
-move-to-front-requires : tie.Need-move-to-front-requires
-move-to-front-requires c κs = search rules
-
-put-at-requires : tie.Need-put-at-requires
-put-at-requires c κs = search rules
-
-add-all-held : tie.Need-overflow-add-all-held
-add-all-held c = search rules
-
-all-held-requires : tie.Need-all-held-requires
-all-held-requires c κs = search rules
-
-same_length : tie.Need-same-length
-same_length c = search rules
-
-returns : tie.Need-returns
+pub returns : goal.returns
 returns c =
-    let p = c.before.before.before.before.before.before.before.before.before.before.before.requires in
-    let a = c.before.before.before.before.before.before.before.before.before.before.before.args in
+    let p = c.requires in
+    let a = c.args in
     waits _ a.from a.kept a.array.now a.new.now _ _ p.0 p.1 p.2 p.3 c.all_held.ensures
-    c.before.before.before.before.before.before.before.move-to-front.ensures c.before.before.before.put-at.ensures
-
-pub all-wait-spec : {M : Type 1} → statement M
-all-wait-spec =
-    tie.close
-    (tie.spec
-    move-to-front-requires
-    put-at-requires
-    add-all-held
-    all-held-requires
-    same_length
-    returns)
+    c.move_to_front.ensures c.put_at.ensures

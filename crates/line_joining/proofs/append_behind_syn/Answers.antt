@@ -5,12 +5,10 @@ use mathlib.Core.Path.{◌≡◌}
 use native.Mathlib.Omega.{arith}
 use lib.ListN.{length, take, drop, length-drop}
 use lib.Seq.{length-take-le, drop-append-le, drop-append-add, drop-drop}
-use borrow.Author.Rules.{rules}
 use Rattle.message.specs.Writing.{placed}
 use Rattle.message.proofs.Buffer.{lent_from, tail, neighbours_front}
 use Rattle.line.proofs.Moving.{drop_take}
-use Rattle.line_joining.proofs.append_behind_syn.Statement.{statement}
-use Rattle.line_joining.proofs.append_behind_syn.Tie as tie
+use Rattle.line_joining.proofs.append_behind_syn.Goals as goal
 
 module _ (from kept : ℕ) (m l : List ℕ) (within : from + kept ≤ length l) where
   size : length (take kept (drop from l)) ≡ kept
@@ -37,62 +35,15 @@ module _ (from kept : ℕ) (m l : List ℕ) (within : from + kept ≤ length l) 
       rw (drop-append-le 2 (take kept (drop from l)) m (omega (arith, size)), part, second, first)
       (rw count at (neighbours_front (take (kept - 2) (drop (from + 2) l)) m l (omega (arith, count))))
 
-sub-put-at : tie.Need-overflow-sub-put-at
-sub-put-at c = search rules
-
-sub-put-at-2 : tie.Need-overflow-sub-put-at-2
-sub-put-at-2 c = search rules
-
-part-put-at-start : tie.Need-slice-bounds-put-at-start
-part-put-at-start c = search rules
-
-part-put-at-end : tie.Need-slice-bounds-put-at-end
-part-put-at-end c = search rules
-
-put-at-requires : tie.Need-put-at-requires
-put-at-requires c κs = search rules
-
-same_length : tie.Need-same-length
-same_length c = search rules
-
-returns : tie.Need-returns
-returns c =
-    let a = c.before.before.before.before.before.before.before.before.args in
+pub returns-then-kept-lt-SYN_LENGTH : goal.returns-then-kept-lt-SYN_LENGTH
+returns-then-kept-lt-SYN_LENGTH c =
+    let a = c.args in
     within-syn a.from a.kept a.bytes.now a.array.now (omega arith) (omega arith)
-    c.before.before.put-at.ensures
+    c.put_at.ensures
 
-add-move-to-front : tie.Need-overflow-add-move-to-front
-add-move-to-front c = search rules
-
-move-to-front-requires : tie.Need-move-to-front-requires
-move-to-front-requires c κs = search rules
-
-put-at-requires-2 : tie.Need-put-at-requires-2
-put-at-requires-2 c κs = search rules
-
-same-length-2 : tie.Need-same-length-2
-same-length-2 c = search rules
-
-returns-2 : tie.Need-returns-2
-returns-2 c =
-    let a = c.before.before.before.before.before.before.before.before.before.before.before.args in
+pub returns : goal.returns
+returns c =
+    let a = c.args in
     behind-syn a.from a.kept a.bytes.now a.array.now (omega arith) (omega arith) (omega arith)
-    c.before.before.before.before.before.before.move-to-front.ensures
-    c.before.before.put-at2.ensures
-
-pub append-behind-syn-spec : {M : Type 1} → statement M
-append-behind-syn-spec =
-    tie.close
-    (tie.spec
-    sub-put-at
-    sub-put-at-2
-    part-put-at-start
-    part-put-at-end
-    put-at-requires
-    same_length
-    returns
-    add-move-to-front
-    move-to-front-requires
-    put-at-requires-2
-    same-length-2
-    returns-2)
+    c.move_to_front.ensures
+    c.put_at-2.ensures

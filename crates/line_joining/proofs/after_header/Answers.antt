@@ -1,0 +1,30 @@
+-- `line_joining::after_header` meets its contract: all bytes wait for the rest of the message, or it is whole.
+use native.Mathlib.Omega.{arith}
+use lib.ListN.{take, drop}
+use Rattle.line.proofs.Moving.{length_part}
+use Rattle.line.proofs.Whole.{waits-for, all-waits}
+use Rattle.line_joining.proofs.after_header.Goals as goal
+
+pub all_wait-requires : goal.all_wait-requires
+all_wait-requires c =
+    let p = c.requires in
+    let a = c.args in
+    let held = take a.kept (drop a.from a.array.now) in
+    let size = length_part a.from a.kept a.array.now (omega arith) in
+    let w = waits-for a.kept held a.new.now size p.2 p.3 in
+    let count = c.total_length.ensures in (
+      p.0,
+      p.1,
+      omega (arith, w, p.4, count),
+      all-waits a.kept held a.new.now size p.2 p.3 (omega (arith, w, p.4, count)),
+    )
+
+pub whole_message-requires : goal.whole_message-requires
+whole_message-requires c =
+    let p = c.requires in
+    let a = c.args in
+    let held = take a.kept (drop a.from a.array.now) in
+    let size = length_part a.from a.kept a.array.now (omega arith) in
+    let w = waits-for a.kept held a.new.now size p.2 p.3 in
+    let count = c.total_length.ensures in
+    (p.0, p.1, p.2, p.3, p.4, omega (arith, w, p.4, count), omega arith)

@@ -1,0 +1,72 @@
+-- `line_joining::after_start` meets its contract: the header stays short, decides an item, or waits for its message.
+use Prim.Native.Nat.{◌-◌}
+use mathlib.Core.Path.{sym, ◌∙◌}
+use native.Mathlib.Nat.{add-sub_cancel_left}
+use native.Mathlib.Omega.{arith}
+use lib.ListN.{take, drop}
+use lib.Seq.{length-take-le}
+use Rattle.line.proofs.Moving.{length_part}
+use Rattle.line.proofs.Start.{start-waits, header-waits, gives-header}
+use Rattle.line_joining.proofs.after_start.Goals as goal
+
+pub all_wait-requires : goal.all_wait-requires
+all_wait-requires c =
+    let p = c.requires in
+    let a = c.args in
+    let held = take a.kept (drop a.from a.array.now) in
+    let size = length_part a.from a.kept a.array.now (omega arith) in
+    (p.0, p.1, omega arith, start-waits a.kept held a.new.now size p.2 p.4 p.5 (omega arith))
+
+pub slice_bounds-join_header-end-2 : goal.slice_bounds-join_header-end-2
+slice_bounds-join_header-end-2 c = sym (length-take-le _ _ (omega arith))
+
+pub join_header-header-requires : goal.join_header-header-requires
+join_header-header-requires c =
+    let a = c.args in
+    rw (
+      add-sub_cancel_left a.from a.kept,
+      length_part a.from a.kept a.array.now (omega arith),
+      length-take-le (8 - a.kept) a.new.now (omega arith),
+    )
+    (omega arith)
+
+pub after_header-requires : goal.after_header-requires
+after_header-requires c =
+    let p = c.requires in
+    let a = c.args in
+    let held = take a.kept (drop a.from a.array.now) in
+    let size = length_part a.from a.kept a.array.now (omega arith) in
+    let header =
+    rw (add-sub_cancel_left a.from a.kept) at
+    c.join_header-header.ensures in
+    let read =
+    rw (c.in_default.is, header) at c.read-reading.ensures in
+    let w = header-waits a.kept held a.new.now size p.2 p.4 (8 - a.kept) (omega arith) (omega arith) p.5
+    (sym read) in
+    (p.0, p.1, omega arith, w, rw header at c.len_in-len.ensures.0, c.len_in-len.ensures.1)
+
+pub slice_bounds-header_item-end : goal.slice_bounds-header_item-end
+slice_bounds-header_item-end c = sym (length-take-le _ _ (omega arith))
+
+pub header_item-requires : goal.header_item-requires
+header_item-requires c =
+    let a = c.args in
+    (c.requires.0, c.requires.1, rw (length-take-le (8 - a.kept) a.new.now (omega arith)) (omega arith))
+
+pub returns : goal.returns
+returns c =
+    let start =
+    c in
+    let p = start.pre in
+    let a = start.args in
+    let held = take a.kept (drop a.from a.array.now) in
+    let size = length_part a.from a.kept a.array.now (omega arith) in
+    let header =
+    rw (add-sub_cancel_left a.from a.kept) at
+    c.join_header-header.ensures in
+    let read = rw (c.in-Decided.is, header) at c.read-reading.ensures in
+    let e = c.header_item.ensures in
+    gives-header a.kept held a.new.now size p.2 p.4 (8 - a.kept) (omega arith) (omega arith) _ c.in-Decided.item
+    c.in-Decided.dropped
+    c.in-Decided.removed a.array.now _ p.5 (sym read) p.0 e.4
+    (e.0, e.1 ∙ length-take-le (8 - a.kept) a.new.now (omega arith), e.2, e.3)
