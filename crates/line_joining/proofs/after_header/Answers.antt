@@ -5,6 +5,15 @@ use Rattle.line.proofs.Moving.{length_part}
 use Rattle.line.proofs.Whole.{waits-for, all-waits}
 use Rattle.line_joining.proofs.after_header.Goals as goal
 
+pub overflow_sub-need : goal.overflow_sub-need
+overflow_sub-need c =
+    let p = c.requires in
+    let a = c.args in
+    let held = take a.kept (drop a.from a.array.now) in
+    let size = length_part a.from a.kept a.array.now (omega arith) in
+    let w = waits-for a.kept held a.new.now size p.2 p.3 in
+    omega (arith, w, p.4, c.total_length.ensures)
+
 pub all_wait-requires : goal.all_wait-requires
 all_wait-requires c =
     let p = c.requires in

@@ -57,7 +57,7 @@ pub returns : goal.returns
 returns c =
     let start =
     c in
-    let p = start.pre in
+    let p = start.requires in
     let a = start.args in
     let held = take a.kept (drop a.from a.array.now) in
     let size = length_part a.from a.kept a.array.now (omega arith) in

@@ -1,0 +1,35 @@
+-- `live_changes::without` meets its contract. The invariant: without the request in row i, the live requests are those that stay.
+use Prim.Native.Nat.{◌+◌, ◌-◌}
+use mathlib.Core.Path.{◌≡◌, refl, sym, ◌∙◌}
+use native.Mathlib.Omega.{arith}
+use lib.ListN.{length, length-map}
+use Rattle.ledger.specs.Parts.{live_max}
+use Rattle.live_changes.proofs.Becoming.{len-at, none-moved, one-moved, all_moved}
+use Rattle.live_changes.proofs.without.Goals as goal
+
+full : (c : tie.Start invariant-loop decreases-loop) → length c.args.live.rows ≡ live_max
+full c = sym (length-map c.args.live.rows _) ∙ c.well-formed.0.1.1.0.1.0.1
+
+pub loop-i-init : goal.loop-i-init
+loop-i-init c =
+    let a = c.args in
+    let p = c.requires in
+    none-moved a.live a.store.now a.row (full c) p.1 p.0 p.2
+
+pub move_up-requires : goal.move_up-requires
+move_up-requires c =
+    let l = c.loop-i in
+    (l.invariant.long, omega arith, omega (arith, len-at l.next l.invariant.full l.invariant.fits (l.i + 1) (omega arith)))
+
+pub loop-i-preserved : goal.loop-i-preserved
+loop-i-preserved c =
+    let a = c.args in
+    let l = c.loop-i in
+    one-moved a.live a.store.now a.row l.next l.store l.i l.invariant _ (omega arith)
+    c.move_up.ensures
+
+pub returns : goal.returns
+returns c =
+    let a = c.args in
+    let l = c.loop-i in
+    all_moved a.live a.store.now a.row l.next l.store l.i l.invariant _ (omega arith) refl (omega arith)
