@@ -13,12 +13,13 @@ import sys
 
 TOKEN = re.compile(r"[^\W\d][\w'-]*")
 HEAD = re.compile(r"^((?:pub|abbrev|unfoldable)\s+)*([^\W\d_A-Z][\w'-]*)\s*:(?!=)")
+INSIDE = re.compile(r"^\s+pub ([^\W\d_A-Z][\w'-]*)\s*:(?!=)")
 MEMBERS = re.compile(r"^\s+(?:pub )?((?:[^\W\d_A-Z][\w'-]* )+):")
 OPENS = re.compile(r"^(?:(?:pub|abbrev|unfoldable)\s+)*(?:record|data)\b")
 
 # A lemma and a definition that would fall together: the lemma has `_law` behind its name.
 LAWS = (
-    "fault-runs first-sent from-le16 heard-as in-pieces in-time is-command is-quiet item-runs kept-runs last-id may-go-again no-response "
+    "fault-runs first-free first-sent from-le16 heard-as in-pieces in-time is-command is-quiet item-runs kept-runs last-id may-go-again no-response "
     "not-command on-command past-of poll-line receive-line refusal-runs request-runs second-id"
 ).split()
 
@@ -59,8 +60,29 @@ def declared(path):
             yield HEAD.match(line).group(2)
         elif inside and MEMBERS.match(line):
             yield from MEMBERS.match(line).group(1).split()
+        elif INSIDE.match(line):
+            yield INSIDE.match(line).group(1)
         elif line.strip() and not line.startswith(" "):
             inside = False
+
+
+def of_a_function(crates):
+    """The files of functions' proofs."""
+    for path in files(os.path.join(crates), ".antt"):
+        parts = os.path.relpath(path, crates).split(os.sep)
+        if parts[1] == "proofs" and len(parts) > 3:
+            yield path
+
+
+def helpers(text):
+    """The lemmas that a function's proof declares for itself: their new names hold in that file alone."""
+    out = {}
+    for line in text.splitlines():
+        m = HEAD.match(line)
+        if m and not re.search(r": (tie|goal)\.|spec :", line) and snake(m.group(2)) != m.group(2):
+            to = snake(m.group(2))
+            out[m.group(2)] = to + "_law" if to in TOKEN.findall(text) else to
+    return out
 
 
 def renamed(crates):
@@ -111,6 +133,8 @@ def main(argv):
         return
     for path in files(crates, ".antt"):
         write(path, turn_source(read(path), names, "--"))
+    for path in of_a_function(crates):
+        write(path, turn_source(read(path), helpers(read(path)), "--"))
     for path in files(crates, ".rt"):
         write(path, turn_source(read(path), camel(names), "//"))
     for path in files(crates, ".edit"):

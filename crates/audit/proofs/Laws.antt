@@ -10,28 +10,28 @@ use Rattle.audit.proofs.Positions as positions
 
 module _ (r : ℕ) (ids : List ℕ) where
   -- "The answer is the first position, counted from 0, whose ID is 0, at most R, or equal to an earlier one, or that there is none."
-  pub is-answer : IsAnswer r ids (audit r ids)
-  is-answer = positions.answers r ids
+  pub is_answer : IsAnswer r ids (audit r ids)
+  is_answer = positions.answers r ids
 
   -- no other answer is right
-  pub only-answer : {answer : Option ℕ} → IsAnswer r ids answer → audit r ids ≡ answer
-  only-answer a = positions.same_answer r ids is-answer a
+  pub only_answer : {answer : Option ℕ} → IsAnswer r ids answer → audit r ids ≡ answer
+  only_answer a = positions.same_answer r ids is_answer a
 
   -- a position that is found is the first unsound one
-  pub found-is-first : (i : ℕ) → audit r ids ≡ some i → IsFirst r ids i
-  found-is-first i e = positions.position-of r ids (rw e at is-answer)
+  pub found_is_first : (i : ℕ) → audit r ids ≡ some i → IsFirst r ids i
+  found_is_first i e = positions.position_of r ids (rw e at is_answer)
 
   -- the first unsound one is found
-  pub first-is-found : (i : ℕ) → IsFirst r ids i → audit r ids ≡ some i
-  first-is-found i f = only-answer (first_position i f)
+  pub first_is_found : (i : ℕ) → IsFirst r ids i → audit r ids ≡ some i
+  first_is_found i f = only_answer (first_position i f)
 
   -- where none is found, every ID is above R and no two are equal
-  pub none-is-sound : audit r ids ≡ none → Sound r ids
-  none-is-sound e = positions.sound_of r ids (rw e at is-answer)
+  pub none_is_sound : audit r ids ≡ none → Sound r ids
+  none_is_sound e = positions.sound_of r ids (rw e at is_answer)
 
   -- where every ID is above R and no two are equal, none is found
-  pub sound-is-none : Sound r ids → audit r ids ≡ none
-  sound-is-none s = only-answer (positions.answer-none r ids s)
+  pub sound_is_none : Sound r ids → audit r ids ≡ none
+  sound_is_none s = only_answer (positions.answer_none r ids s)
 
 -- "An empty row has none."
 pub empty_row : (r : ℕ) → audit r [] ≡ none

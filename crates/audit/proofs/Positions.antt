@@ -2,7 +2,7 @@
 -- and the walk of the definition finds the first position at which the test holds.
 use Prim.Native.Nat.{ℕ, zero, suc, ◌+◌, ◌<◌}
 use mathlib.Core.Bool.{Bool, true, false, true≢false, ◌||◌, or-true, cond as if}
-use mathlib.Core.List.{List, [], ◌∷◌, ◌++◌, append-nil}
+use mathlib.Core.List.{List, [], ◌∷◌, ◌++◌, append_nil}
 use mathlib.Core.Option.{Option, none, some}
 use mathlib.Core.Path.{◌≡◌, refl, sym, ap, ◌∙◌}
 use native.Mathlib.Omega.{arith}
@@ -110,7 +110,7 @@ module _ (r : ℕ) (ids : List ℕ) where
 
   -- the test with nothing earlier than the row
   whole : (i : ℕ) → test_in r [] ids i ≡ is_unsound r (take i ids) (id_at ids i)
-  whole i = ap (λ (earlier : List ℕ). is_unsound r earlier (id_at ids i)) (append-nil (take i ids))
+  whole i = ap (λ (earlier : List ℕ). is_unsound r earlier (id_at ids i)) (append_nil (take i ids))
 
   sound : (i : ℕ) → i < length ids → test_in r [] ids i ≡ false → Unsound r ids i → ⊥
   sound i inside e unsound = true≢false (sym (whole i ∙ to-test i inside unsound) ∙ e)
@@ -139,8 +139,8 @@ module _ (r : ℕ) (ids : List ℕ) where
   same_answer (no_position h) (no_position k) = refl
 
   -- an answer that is a position is the first unsound one
-  pub position-of : {i : ℕ} → IsAnswer r ids (some i) → IsFirst r ids i
-  position-of (first_position i f) = f
+  pub position_of : {i : ℕ} → IsAnswer r ids (some i) → IsFirst r ids i
+  position_of (first_position i f) = f
 
   -- an answer that there is none tells that the row is sound
   pub sound_of : IsAnswer r ids none → Sound r ids
@@ -154,8 +154,8 @@ module _ (r : ℕ) (ids : List ℕ) where
           by_test false e = leb-false (id_at ids i) r e
 
   -- and of a sound row that is the answer
-  pub answer-none : Sound r ids → IsAnswer r ids none
-  answer-none s = no_position none_unsound
+  pub answer_none : Sound r ids → IsAnswer r ids none
+  answer_none s = no_position none_unsound
     where
       none_unsound : (i : ℕ) → i < length ids → Unsound r ids i → ⊥
       none_unsound i inside (is_zero e) = let more = s.unreserved i inside in omega arith

@@ -117,19 +117,19 @@ neither false false c e = refl
 
 module _ (r id : ℕ) (table : List ℕ) where
   -- an ID that is 0 or at most R is unsound, whatever the table holds
-  pub judged-reserved : eqb id 0 || leb id r ≡ true → Judged r id table table true
+  pub judged_reserved : eqb id 0 || leb id r ≡ true → Judged r id table table true
   unfolding is_unsound
-  judged-reserved e = record {
+  judged_reserved e = record {
     leaves = rw e refl;
     judged = λ earlier held. either (eqb id 0) (leb id r) (is_among id earlier) e;
     marked = λ earlier held sound. absurd (true≢false sound);
   }
 
   -- another one is unsound exactly where the table holds it, and is marked
-  pub judged-marked : (after : List ℕ) (answer : Bool) → eqb id 0 || leb id r ≡ false → length table ≡ words → id < words * bits → answer ≡ has_seen table id → after ≡ with_seen table id
+  pub judged_marked : (after : List ℕ) (answer : Bool) → eqb id 0 || leb id r ≡ false → length table ≡ words → id < words * bits → answer ≡ has_seen table id → after ≡ with_seen table id
       → Judged r id table after answer
   unfolding is_unsound
-  judged-marked after answer e all small said kept = record {
+  judged_marked after answer e all small said kept = record {
     leaves = rw e kept;
     judged = λ earlier held. said ∙ held id small ∙ neither (eqb id 0) (leb id r) (is_among id earlier) e;
     marked = λ earlier held sound. subst (λ (t : List ℕ). Holds t (id ∷ earlier)) (sym kept) (holds_marked table earlier id all small held);

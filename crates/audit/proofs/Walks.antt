@@ -31,12 +31,12 @@ module _ (r : ℕ) (ids table : List ℕ) (i id : ℕ) (rest : List ℕ) (walked
       ap (λ (t : Bool). if t (some i) (first_from r (id ∷ walked.earlier) (suc i) rest)) (step.judged walked.earlier walked.held)
       ∙ walked.left
 
-  pub walk-finds : answer ≡ true → some i ≡ audit r ids
-  walk-finds unsound =
+  pub walk_finds : answer ≡ true → some i ≡ audit r ids
+  walk_finds unsound =
       ap (λ (t : Bool). if t (some i) (first_from r (id ∷ walked.earlier) (suc i) rest)) (sym unsound) ∙ turn
 
-  pub walk-goes-on : answer ≡ false → Walked r ids after (i + 1) rest
-  walk-goes-on sound =
+  pub walk_goes_on : answer ≡ false → Walked r ids after (i + 1) rest
+  walk_goes_on sound =
       let sum : i + 1 ≡ suc i = omega arith in
       record {
         earlier = id ∷ walked.earlier;

@@ -12,7 +12,7 @@ use Rattle.message.specs.Bytes.{nak}
 use Rattle.message.specs.Items.{scan, payload_of}
 use Rattle.message.specs.Writing.{accepted, refused, written, placed}
 use Rattle.audit.specs.Audit.{audit}
-use Rattle.audit.proofs.Laws.{found-is-first}
+use Rattle.audit.proofs.Laws.{found_is_first}
 use Rattle.c_api.specs.Numbers.{WroteNumber, numbers, numbers_of, place_of}
 use Rattle.c_api.specs.Rows.{AllTold, readings, writings, auditings}
 use Rattle.c_api.proofs.Rows as rows
@@ -77,4 +77,4 @@ nak_refused wrote other = trips.nak_refused wrote refl other
 
 -- a position that an audit finds is below the number of IDs; that number says that there is none
 pub position_below : (r : ℕ) (ids : List ℕ) {p : ℕ} → audit r ids ≡ some p → p < length ids
-position_below r ids {p} h = (found-is-first r ids p h).within
+position_below r ids {p} h = (found_is_first r ids p h).within

@@ -75,16 +75,16 @@ module _ (odd : ℕ) (s : List ℕ) (few : odd ≤ 7) (enough : odd + 9 ≤ leng
       (subst (λ (k : ℕ). number (take (odd + 9) s) < 2 ^ k) bits (number_below (take (odd + 9) s)))
       (subst (λ (k : ℕ). start * 2 ^ (8 * odd + 56) < 2 ^ k) (add_comm 16 (8 * odd + 56)) (shl_lt 16 (8 * odd + 56) (omega arith)))
 
-  pub front-law : remainder 128 (two_words (bit_xor (number (take (odd + 1) s)) (start_high odd)) (bit_xor (number (take 8 (drop (odd + 1) s))) (start_low odd)))
+  pub front_law : remainder 128 (two_words (bit_xor (number (take (odd + 1) s)) (start_high odd)) (bit_xor (number (take 8 (drop (odd + 1) s))) (start_low odd)))
       ≡ checksum_of (take (odd + 9) s)
-  front-law =
+  front_law =
       ap₂ remainder (in_128 odd few) sum-law
       ∙ zeros_first (56 - 8 * odd) (8 * odd + 56 + 16) (bit_xor (number (take (odd + 9) s)) (start * 2 ^ (8 * odd + 56))) sum_below
       ∙ sym (start_first (8 * odd + 56) (take (odd + 9) s) bits)
 
   -- the first bytes taken off a word
-  pub front-by-word : bit_xor (number (take 8 s)) (start * 2 ^ 48) / 2 ^ (56 - 8 * odd) ≡ bit_xor (number (take (odd + 1) s)) (start_high odd)
-  front-by-word =
+  pub front_by_word : bit_xor (number (take 8 s)) (start * 2 ^ 48) / 2 ^ (56 - 8 * odd) ≡ bit_xor (number (take (odd + 1) s)) (start_high odd)
+  front_by_word =
       xor_shr (number (take 8 s)) (start * 2 ^ 48) (56 - 8 * odd)
       ∙ ap (λ (x : ℕ). bit_xor x (start_high odd))
       (ap₂ (λ (m k : ℕ). number (take m s) / 2 ^ k) (as_eight odd few) (as_bits odd few) ∙ number_first (odd + 1) (7 - odd) s (omega arith))

@@ -14,7 +14,7 @@ use Rattle.checksum_words.proofs.Numbers.{number_below, behind_below}
 use Rattle.checksum_words.proofs.Remainders.{zeros_first, bytes_next}
 use Rattle.checksum_words.proofs.Starts.{start_left, start_first}
 use Rattle.checksum_words.proofs.Loops.{rest_of}
-use Rattle.checksum_words.proofs.Fronts.{start_high, start_low, front-law}
+use Rattle.checksum_words.proofs.Fronts.{start_high, start_low, front_law}
 
 pub of_none : (s : List ℕ) → length s ≡ 0 → start ≡ checksum_of s
 unfolding checksum_of checksum_from
@@ -71,7 +71,7 @@ pub of_front : (odd x w r : ℕ) (s : List ℕ) → odd ≤ 7 → length s ≡ o
 of_front odd x w r s few h ex ew er =
     er
     ∙ ap₂ (λ (y z : ℕ). remainder 128 (two_words (bit_xor y (start_high odd)) (bit_xor z (start_low odd)))) ex ew
-    ∙ front-law odd s few (omega arith)
+    ∙ front_law odd s few (omega arith)
     ∙ all_of (odd + 9) s h
 
 -- bytes behind those in front

@@ -19,7 +19,7 @@ use Rattle.ledger.proofs.Cases.{by_test}
 use Rattle.claims.proofs.Lists.{all_map, all_right}
 use Rattle.claims.proofs.Views.{Change, stays, joins, leaves, turns, rests_free, rests_busy, View, refuses, accepts, view}
 use Rattle.claims.proofs.Fine.{Sound, Fine, fresh_fine, later, turned, issued_free, fine_step}
-use Rattle.claims.proofs.Tracing.{Told, told-calm, told-join, told-leave, told-turn}
+use Rattle.claims.proofs.Tracing.{Told, told_calm, told_join, told_leave, told_turn}
 
 pub record Good (limit : ℕ) (s : Run) : Type 0 where
   pub fine : Fine limit s.ledger
@@ -38,41 +38,41 @@ module _ (limit : ℕ) (enough : Enough limit) where
   told-step : (l : Ledger) (c : Call) (h : List Entry) (d : Done) → Fine limit l → View limit l c d → Told h l.live
       → Told (entry_of c d ∷ h) d.next.live
   told-step l c h d fine (refuses n number buffers same) told =
-      rw same (told-calm (entry_of c d) h l.live (rw number) (rw number) (rw number) told)
+      rw same (told_calm (entry_of c d) h l.live (rw number) (rw number) (rw number) told)
   told-step l c h d fine (accepts go_on accepted keeps change) told = go change
     where
       e : Entry
       e = entry_of c d
 
       go : Change limit l (reading_of c) d → Told (entry_of c d ∷ h) d.next.live
-      go (stays shows same) = rw same (told-calm (entry_of c d) h l.live shows.asks shows.ends shows.sends told)
+      go (stays shows same) = rw same (told_calm (entry_of c d) h l.live shows.asks shows.ends shows.sends told)
       go (rests_free current free idle shows same) =
-          rw same (told-calm (entry_of c d) h l.live shows.asks shows.ends shows.sends told)
+          rw same (told_calm (entry_of c d) h l.live shows.asks shows.ends shows.sends told)
       go (rests_busy current b a q f among flying calm shows same) =
-          rw same (told-calm (entry_of c d) h l.live shows.asks shows.ends shows.sends told)
+          rw same (told_calm (entry_of c d) h l.live shows.asks shows.ends shows.sends told)
       go (joins q new named short room shows same) =
-          rw same (told-join (entry_of c d) h l.live q new (rw named (issued_free limit enough l fine room)) shows.asks
+          rw same (told_join (entry_of c d) h l.live q new (rw named (issued_free limit enough l fine room)) shows.asks
           shows.ends shows.sends told)
       go (leaves b a q x among named shows same) =
-          rw same (told-leave (entry_of c d) h b a q x (rw among at fine.fit.distinct) shows.asks shows.ends named
+          rw same (told_leave (entry_of c d) h b a q x (rw among at fine.fit.distinct) shows.asks shows.ends named
           shows.sends (rw among at told))
       go (turns b a q s frame among turn first shows same) =
           let sound = (all_right (Sound l.reserved (reading_of c)) b (q ∷ a) (rw among at (now_sound l fine go_on))).0 in
-          rw same (told-turn (entry_of c d) h l (reading_of c) q b a s frame (rw among at fine.fit.distinct) turn sound.steady
+          rw same (told_turn (entry_of c d) h l (reading_of c) q b a s frame (rw among at fine.fit.distinct) turn sound.steady
           (turned l (reading_of c) q turn sound.steady).steady shows.asks shows.ends shows.sends (rw among at told))
 
-  pub good-step : (s : Run) (c : Call) → Good limit s → Good limit (then limit s c)
-  good-step s c good =
+  pub good_step : (s : Run) (c : Call) → Good limit s → Good limit (then limit s c)
+  good_step s c good =
       let v = view limit s.ledger c in
       record {
         fine = fine_step limit enough s.ledger c good.fine v;
         told = told-step s.ledger c s.past (step limit s.ledger c) good.fine v good.told;
       }
 
-  pub good-run : (s : Run) (cs : List Call) → Good limit s → Good limit (run limit s cs)
+  pub good_run : (s : Run) (cs : List Call) → Good limit s → Good limit (run limit s cs)
   unfolding run
-  good-run s [] good = good
-  good-run s (c ∷ cs) good = good-run (then limit s c) cs (good-step s c good)
+  good_run s [] good = good
+  good_run s (c ∷ cs) good = good_run (then limit s c) cs (good_step s c good)
 
 -- what open hands back
 pub start_good : (limit given : ℕ) → Good limit (start given)

@@ -16,7 +16,7 @@ use Rattle.ledger.specs.Polling.{frame_bytes}
 use Rattle.ledger.specs.Runs.{Entry}
 use Rattle.claims.specs.Trace.{Asked, id_in, asked_as, ending_in, frame_in, named_by, last_or, last_asked, owner, is_at, endings, frames, without, live_after, requests}
 use Rattle.ledger.proofs.Cases.{by_test}
-use Rattle.claims.proofs.Lists.{append-nil}
+use Rattle.claims.proofs.Lists.{append_nil}
 
 pub some_same : {x y : Asked} → some x ≡ some y → x ≡ y
 some_same h = cc
@@ -90,36 +90,36 @@ module _ (e : Entry) (h : List Entry) where
   unfolding last_asked
   asks_none id shown = rw shown
 
-  pub asks-other : (id : ℕ) {i : ℕ} → id_in e.answer ≡ some i → (i ≡ id → ⊥) → last_asked id (e ∷ h) ≡ last_asked id h
+  pub asks_other : (id : ℕ) {i : ℕ} → id_in e.answer ≡ some i → (i ≡ id → ⊥) → last_asked id (e ∷ h) ≡ last_asked id h
   unfolding last_asked
-  asks-other id {i} shown apart = rw (shown, ne_eqb i id apart)
+  asks_other id {i} shown apart = rw (shown, ne_eqb i id apart)
 
-  pub asks-it : {i : ℕ} → id_in e.answer ≡ some i → last_asked i (e ∷ h) ≡ some (asked_as e (length h) i)
+  pub asks_it : {i : ℕ} → id_in e.answer ≡ some i → last_asked i (e ∷ h) ≡ some (asked_as e (length h) i)
   unfolding last_asked
-  asks-it {i} shown = rw (shown, eq-eqb i i refl)
+  asks_it {i} shown = rw (shown, eq-eqb i i refl)
 
-  pub ends-none : (k : ℕ) → ending_in e.answer ≡ none → endings k (e ∷ h) ≡ endings k h
+  pub ends_none : (k : ℕ) → ending_in e.answer ≡ none → endings k (e ∷ h) ≡ endings k h
   unfolding endings
-  ends-none k shown = rw shown (omega arith)
+  ends_none k shown = rw shown (omega arith)
 
-  pub ends-one : (k : ℕ) {x : Ending} {a : Asked} → ending_in e.answer ≡ some x → last_asked x.id h ≡ some a
+  pub ends_one : (k : ℕ) {x : Ending} {a : Asked} → ending_in e.answer ≡ some x → last_asked x.id h ≡ some a
       → endings k (e ∷ h) ≡ (if (eqb a.place k) 1 0) + endings k h
   unfolding endings
-  ends-one k shown last = rw (shown, last)
+  ends_one k shown last = rw (shown, last)
 
   pub sends_none : (k : ℕ) → frame_in e ≡ none → frames k (e ∷ h) ≡ frames k h
   unfolding frames
   sends_none k shown = rw shown
 
-  pub sends-one : (k : ℕ) {f : List ℕ} {a : Asked} → frame_in e ≡ some f → last_asked (named_by f) h ≡ some a
+  pub sends_one : (k : ℕ) {f : List ℕ} {a : Asked} → frame_in e ≡ some f → last_asked (named_by f) h ≡ some a
       → frames k (e ∷ h) ≡ (if (eqb a.place k) (f ∷ []) []) ++ frames k h
   unfolding frames
-  sends-one k shown last = rw (shown, last)
+  sends_one k shown last = rw (shown, last)
 
-  pub live-ends : {x : Ending} {a : Asked} → id_in e.answer ≡ none → ending_in e.answer ≡ some x → last_asked x.id h ≡ some a
+  pub live_ends : {x : Ending} {a : Asked} → id_in e.answer ≡ none → ending_in e.answer ≡ some x → last_asked x.id h ≡ some a
       → live_after (e ∷ h) ≡ without (some a) (live_after h)
   unfolding live_after
-  live-ends {x} {a} asked shown last = rw (asked, shown, last) (append-nil (without (some a) (live_after h)))
+  live_ends {x} {a} asked shown last = rw (asked, shown, last) (append_nil (without (some a) (live_after h)))
 
 keeps_all : (live : List Asked) → without none live ≡ live
 unfolding without
@@ -127,9 +127,9 @@ keeps_all [] = refl
 keeps_all (a ∷ rest) = ap (a ∷◌) (keeps_all rest)
 
 module _ (e : Entry) (h : List Entry) where
-  pub live-stays : id_in e.answer ≡ none → ending_in e.answer ≡ none → live_after (e ∷ h) ≡ live_after h
+  pub live_stays : id_in e.answer ≡ none → ending_in e.answer ≡ none → live_after (e ∷ h) ≡ live_after h
   unfolding live_after
-  live-stays asked shown = rw (asked, shown) (append-nil (without none (live_after h)) ∙ keeps_all (live_after h))
+  live_stays asked shown = rw (asked, shown) (append_nil (without none (live_after h)) ∙ keeps_all (live_after h))
 
   pub live_joins : {i : ℕ} → id_in e.answer ≡ some i → ending_in e.answer ≡ none
       → live_after (e ∷ h) ≡ live_after h ++ (asked_as e (length h) i ∷ [])
@@ -138,7 +138,7 @@ module _ (e : Entry) (h : List Entry) where
 
   pub requests_stay : id_in e.answer ≡ none → requests (e ∷ h) ≡ requests h
   unfolding requests
-  requests_stay asked = rw asked (append-nil (requests h))
+  requests_stay asked = rw asked (append_nil (requests h))
 
   pub requests_join : {i : ℕ} → id_in e.answer ≡ some i → requests (e ∷ h) ≡ requests h ++ (asked_as e (length h) i ∷ [])
   unfolding requests

@@ -24,10 +24,10 @@ use Rattle.claims.proofs.ClockTest.{leave_of, may_be_later, may_follow, keeps_cl
 use Rattle.claims.proofs.Lists.{all_of, all_map, all_right}
 use Rattle.claims.proofs.Views.{quiet_in, Change, stays, joins, leaves, turns, rests_free, rests_busy, View, refuses, accepts, view}
 use Rattle.claims.proofs.Fine.{Sound, Fine, issued_free}
-use Rattle.claims.proofs.Belonging.{asks_none, asks-other, asks-it}
+use Rattle.claims.proofs.Belonging.{asks_none, asks_other, asks_it}
 use Rattle.claims.proofs.Owners.{Own, Owners, not_live}
-use Rattle.claims.proofs.Along.{Good, entry_of, now_sound, good-step, start_good}
-use Rattle.claims.proofs.Deadlines.{Ok, free_after, Line, Timely, timely-turn, timely-join, timely-less, Until, no_deadline, until_sooner, least, not_before, line-until, timely-busy, timely-free, line-in-time, early-busy, early-free}
+use Rattle.claims.proofs.Along.{Good, entry_of, now_sound, good_step, start_good}
+use Rattle.claims.proofs.Deadlines.{Ok, free_after, Line, Timely, timely_turn, timely_join, timely_less, Until, no_deadline, until_sooner, least, not_before, line_until, timely_busy, timely_free, line_in_time, early_busy, early_free}
 
 -- the reading at which a live request was accepted
 abbrev pub time_of : Option Asked → ℕ
@@ -75,10 +75,10 @@ module _ (limit : ℕ) (enough : Enough limit) where
       rw same (unasked (entry_of c d) h limit (reading_of c) l.live shows.asks timely)
   changed l c h d fine go_on (leaves b a q x among named shows same) timely =
       rw same (unasked (entry_of c d) h limit (reading_of c) (b ++ a) shows.asks
-      (timely-less limit (reading_of c) (accepted_at h) b a q (rw among at timely)))
+      (timely_less limit (reading_of c) (accepted_at h) b a q (rw among at timely)))
   changed l c h d fine go_on (turns b a q s frame among turn first shows same) timely =
       rw same (unasked (entry_of c d) h limit (reading_of c) (b ++ (with_state s q ∷ a)) shows.asks
-      (timely-turn limit (reading_of c) (accepted_at h) l b a q turn (λ new. (rw among at (first new).0, (first new).1)) (λ s. refl)
+      (timely_turn limit (reading_of c) (accepted_at h) l b a q turn (λ new. (rw among at (first new).0, (first new).1)) (λ s. refl)
       (rw among at timely)))
   changed l c h d fine go_on (joins q new named short room shows same) timely =
       let e = entry_of c d in
@@ -86,12 +86,12 @@ module _ (limit : ℕ) (enough : Enough limit) where
       let free = not_live q.id l.live (rw named (issued_free limit enough l fine room)) in
       let few = fine.fit.few in
       let fewer : length l.live < limit = omega (arith, room) in
-      let at-now : accepted q ≡ reading_of c = ap time_of (asks-it e h shows.asks) in
-      rw same (timely-join limit (reading_of c) accepted l.reserved l.live q new at-now (now_sound l fine go_on)
+      let at-now : accepted q ≡ reading_of c = ap time_of (asks_it e h shows.asks) in
+      rw same (timely_join limit (reading_of c) accepted l.reserved l.live q new at-now (now_sound l fine go_on)
       fine.fit.one fewer
       (timely_same limit (reading_of c) (accepted_at h) accepted l.live
       (all_map (λ x. x.id ≡ q.id → ⊥) (λ x. accepted x ≡ accepted_at h x)
-      (λ x apart. ap time_of (asks-other e h x.id shows.asks (λ k. apart (sym k)))) l.live free) timely))
+      (λ x apart. ap time_of (asks_other e h x.id shows.asks (λ k. apart (sym k)))) l.live free) timely))
 
 -- how far the next reading may be, by an answer
 not_quiet : (a : Answer) (t t' : ℕ) → quiet_in a ≡ none → may_be_later a t t' ≡ false
@@ -195,7 +195,7 @@ module _ (limit : ℕ) (enough : Enough limit) where
           → All (Until t) l.live
       until rests same =
           up_to (entry_of c d) h t accepted l.live rests
-          (line-until limit (reading_of c) (accepted_at h) before.base before.base l.live before.line) may
+          (line_until limit (reading_of c) (accepted_at h) before.base before.base l.live before.line) may
 
       go : Change limit l (reading_of c) d → Timely limit t (accepted_at (entry_of c d ∷ h)) d.next.live
       go (stays shows same) = still shows.rests
@@ -203,12 +203,12 @@ module _ (limit : ℕ) (enough : Enough limit) where
       go (leaves b a q x among named shows same) = still shows.rests
       go (turns b a q s frame among turn first shows same) = still shows.rests
       go (rests_free current free idle shows same) =
-          rw same (timely-free limit (reading_of c) (accepted_at (entry_of c d ∷ h)) t l.live free idle (until shows.rests same)
+          rw same (timely_free limit (reading_of c) (accepted_at (entry_of c d ∷ h)) t l.live free idle (until shows.rests same)
           (rw same at after))
       go (rests_busy current b a q f among flying calm shows same) =
           let steady = (all_right (Sound l.reserved (reading_of c)) b (q ∷ a) (rw among at (now_sound l fine go_on))).0.steady in
           let few : f.transmissions ≤ max_transmissions = (rw flying at steady).1 in
-          rw (same, among) (timely-busy limit (reading_of c) (accepted_at (entry_of c d ∷ h)) t b a q flying few
+          rw (same, among) (timely_busy limit (reading_of c) (accepted_at (entry_of c d ∷ h)) t b a q flying few
           (rw among at (until shows.rests same)) (rw (same, among) at after))
 
   timed-step : (s : Run) (c : Call) → Good limit s → keeps_clock_rule (then limit s c).past ≡ true → Timed limit s
@@ -266,25 +266,25 @@ module _ (limit : ℕ) (enough : Enough limit) where
       go (leaves b a q x among named shows same) = absurd (noisy shows.rests)
       go (turns b a q s frame among turn first shows same) = absurd (noisy shows.rests)
       go (rests_free current free idle shows same) =
-          rw same (moved (early-free limit (reading_of c) (accepted_at h) l.live free idle current (timely accepted)))
+          rw same (moved (early_free limit (reading_of c) (accepted_at h) l.live free idle current (timely accepted)))
       go (rests_busy current b a q f among flying calm shows same) =
           let steady = (all_right (Sound l.reserved (reading_of c)) b (q ∷ a) (rw among at (now_sound l fine go_on))).0.steady in
           let few : f.transmissions ≤ max_transmissions = (rw flying at steady).1 in
-          rw same (moved (rw among (early-busy limit (reading_of c) (accepted_at h) b a q flying few calm (rw among at current)
+          rw same (moved (rw among (early_busy limit (reading_of c) (accepted_at h) b a q flying few calm (rw among at current)
           (rw among at (timely accepted)))))
 
-  pub quiet-ends : (s : Run) (c : Call) (time : Option ℕ) → Good limit s → Timed limit s
+  pub quiet_ends : (s : Run) (c : Call) (time : Option ℕ) → Good limit s → Timed limit s
       → keeps_clock_rule (then limit s c).past ≡ true
       → (step limit s.ledger c).answer ≡ polled (quiet time)
       → All (λ a. a.time + longest limit ≤ reading_of c → endings a.place (then limit s c).past ≡ 1)
       (requests (then limit s c).past)
-  quiet-ends s c time good timed kept answered =
+  quiet_ends s c time good timed kept answered =
       all_map (Fate (then limit s c).past) (λ a. a.time + longest limit ≤ reading_of c
       → endings a.place (then limit s c).past ≡ 1)
       over (requests (then limit s c).past) next.told.fates
     where
       next : Good limit (then limit s c)
-      next = good-step limit enough s c good
+      next = good_step limit enough s c good
 
       early : All (λ q. reading_of c < accepted_at (then limit s c).past q + 3000 * limit + 3000) (then limit s c).ledger.live
       early = quiet-early s.ledger c s.past (step limit s.ledger c) time good.fine
@@ -311,16 +311,16 @@ module _ (limit : ℕ) (enough : Enough limit) where
           absurd (omega arith)
 
   -- no accepted call comes later than that while a request is live
-  pub call-in-time : (s : Run) (c : Call) → Good limit s → Timed limit s → s.ledger.clock ≤ reading_of c
+  pub call_in_time : (s : Run) (c : Call) → Good limit s → Timed limit s → s.ledger.clock ≤ reading_of c
       → may_follow s.past (reading_of c) ≡ true
       → All (λ a. reading_of c ≤ a.time + longest limit) (live_after s.past)
-  call-in-time s c good timed on may = go (live_after s.past) (λ a among. among)
+  call_in_time s c good timed on may = go (live_after s.past) (λ a among. among)
     where
       timely : Timely limit (reading_of c) (accepted_at s.past) s.ledger.live
       timely = timed.ready (reading_of c) on may
 
       within : All (λ q. reading_of c ≤ accepted_at s.past q + 3000 * limit + 3000) s.ledger.live
-      within = line-in-time limit (reading_of c) (accepted_at s.past) timely.base timely.base s.ledger.live
+      within = line_in_time limit (reading_of c) (accepted_at s.past) timely.base timely.base s.ledger.live
           timely.later (omega arith) timely.line
 
       one : (a : Asked) → a ∈ live_after s.past → reading_of c ≤ a.time + longest limit
@@ -355,8 +355,8 @@ module _ (limit : ℕ) (enough : Enough limit) where
           (λ rule.
               let kept = rule_test (e ∷ s.past) rule in
               let before = told.timed (kept_before e s.past kept) in (
-                (λ time answered. quiet-ends s c time good before kept answered),
-                (λ accepted. call-in-time s c good before (clock-of s.ledger c (view limit s.ledger c) accepted)
+                (λ time answered. quiet_ends s c time good before kept answered),
+                (λ accepted. call_in_time s c good before (clock-of s.ledger c (view limit s.ledger c) accepted)
                     (kept_now e s.past accepted kept)),
               )),
           told.bounded,
@@ -366,9 +366,9 @@ module _ (limit : ℕ) (enough : Enough limit) where
   bounded-run : (s : Run) (cs : List Call) → Good limit s → Told-in-time s → Told-in-time (run limit s cs)
   unfolding run
   bounded-run s [] good told = told
-  bounded-run s (c ∷ cs) good told = bounded-run (then limit s c) cs (good-step limit enough s c good) (bounded-step s c good told)
+  bounded-run s (c ∷ cs) good told = bounded-run (then limit s c) cs (good_step limit enough s c good) (bounded-step s c good told)
 
-  pub always-bounded : (given : ℕ) (cs : List Call) → Bounded (longest limit) (run limit (start given) cs).past
-  always-bounded given cs =
+  pub always_bounded : (given : ℕ) (cs : List Call) → Bounded (longest limit) (run limit (start given) cs).past
+  always_bounded given cs =
       (bounded-run (start given) cs (start_good limit given) (record { timed = λ kept. start_timed limit given; bounded = tt })
       ).bounded

@@ -71,10 +71,10 @@ module _ (limit t : ℕ) (accepted : Request → ℕ) where
   after-grows free (waiting since) = omega arith
 
   -- one leaves
-  pub line-less : (base free : ℕ) (b a : List Request) (q : Request) → Line limit t base free accepted (b ++ (q ∷ a))
+  pub line_less : (base free : ℕ) (b a : List Request) (q : Request) → Line limit t base free accepted (b ++ (q ∷ a))
       → Line limit t base free accepted (b ++ a)
-  line-less base free [] a q h = line-sooner base (free_after free q.state) free a (after-grows free q.state) h.1
-  line-less base free (x ∷ b) a q h = (h.0, line-less base (free_after free x.state) b a q h.1)
+  line_less base free [] a q h = line-sooner base (free_after free q.state) free a (after-grows free q.state) h.1
+  line_less base free (x ∷ b) a q h = (h.0, line_less base (free_after free x.state) b a q h.1)
 
   -- one goes into another state, and does not leave the line later
   record Lighter (base a : ℕ) (from to : State) : Type 0 where
@@ -154,12 +154,12 @@ module _ (limit t : ℕ) (accepted : Request → ℕ) where
         rw (after-idle (free + 3000) x.state idle.0) rest,
       )
 
-  pub timely-turn : (l : Ledger) (b a : List Request) (q : Request) {s : State} {frame : Option (List ℕ)}
+  pub timely_turn : (l : Ledger) (b a : List Request) (q : Request) {s : State} {frame : Option (List ℕ)}
       → Turn l t q q.state s frame
       → (q.state ≡ queued → All (λ x. flies x ≡ none) (b ++ (q ∷ a)) × All (λ x. queued_in x.state ≡ none) b)
       → ((s : State) → accepted (with_state s q) ≡ accepted q)
       → Timely limit t accepted (b ++ (q ∷ a)) → Timely limit t accepted (b ++ (with_state s q ∷ a))
-  timely-turn l b a q {s} turn first same h = go q.state refl turn
+  timely_turn l b a q {s} turn first same h = go q.state refl turn
     where
       flown : {f : Frame} → in_flight f ≡ queued → ⊥
       flown e = let z : ◌≡◌ {A = ℕ} 0 1 = cc in omega arith
@@ -246,9 +246,9 @@ module _ (limit t : ℕ) (accepted : Request → ℕ) where
       ok (in_flight f) steady enough h = (h.0, omega arith, omega arith)
       ok (waiting since) steady enough h = h
 
-  pub timely-join : (r : ℕ) (live : List Request) (q : Request) → q.state ≡ queued → accepted q ≡ t → All (Sound r t) live
+  pub timely_join : (r : ℕ) (live : List Request) (q : Request) → q.state ≡ queued → accepted q ≡ t → All (Sound r t) live
       → flights live ≤ 1 → length live < limit → Timely limit t accepted live → Timely limit t accepted (live ++ (q ∷ []))
-  timely-join r live q new at sound one room h =
+  timely_join r live q new at sound one room h =
       let count = all-at-most live in
       by_test (λ b. leb h.base (t + 3000 * flights live) ≡ b → Timely limit t accepted (live ++ (q ∷ [])))
       (leb h.base (t + 3000 * flights live))
@@ -266,8 +266,8 @@ module _ (limit t : ℕ) (accepted : Request → ℕ) where
       })
       refl
 
-  pub timely-less : (b a : List Request) (q : Request) → Timely limit t accepted (b ++ (q ∷ a)) → Timely limit t accepted (b ++ a)
-  timely-less b a q h = record { base = h.base; later = h.later; line = line-less h.base h.base b a q h.line }
+  pub timely_less : (b a : List Request) (q : Request) → Timely limit t accepted (b ++ (q ∷ a)) → Timely limit t accepted (b ++ a)
+  timely_less b a q h = record { base = h.base; later = h.later; line = line_less h.base h.base b a q h.line }
 
 -- a reading that no deadline of a request has passed
 abbrev pub Until : ℕ → Request → Type 0
@@ -327,11 +327,11 @@ module _ (limit t : ℕ) (accepted : Request → ℕ) where
   ok-until base free a (in_flight f) h d k = let g = some_number k in omega arith
   ok-until base free a (waiting since) h d k = let g = some_number k in omega arith
 
-  pub line-until : (base free : ℕ) (qs : List Request) → Line limit t base free accepted qs → All (Until t) qs
-  line-until base free [] h = tt
-  line-until base free (q ∷ qs) h = (
+  pub line_until : (base free : ℕ) (qs : List Request) → Line limit t base free accepted qs → All (Until t) qs
+  line_until base free [] h = tt
+  line_until base free (q ∷ qs) h = (
     ok-until base free (accepted q) q.state h.0,
-    line-until base
+    line_until base
         (free_after free q.state) qs h.1,
   )
 
@@ -360,17 +360,17 @@ module _ (limit t : ℕ) (accepted : Request → ℕ) where
       subst (Ok limit t base free (accepted q)) flying h.0 in omega arith
   flown-by base free (x ∷ b) a q flying few h = flown-by base (free_after free x.state) b a q flying few h.1
 
-  pub timely-busy : (t' : ℕ) (b a : List Request) (q : Request) {f : Frame} → q.state ≡ in_flight f
+  pub timely_busy : (t' : ℕ) (b a : List Request) (q : Request) {f : Frame} → q.state ≡ in_flight f
       → f.transmissions ≤ max_transmissions
       → All (Until t') (b ++ (q ∷ a)) → Timely limit t accepted (b ++ (q ∷ a)) → Timely limit t' accepted (b ++ (q ∷ a))
-  timely-busy t' b a q {f} flying few until h =
+  timely_busy t' b a q {f} flying few until h =
       let by = flown-by h.base h.base b a q flying few h.line in
       let here = (all_right (Until t') b (q ∷ a) until).0 (deadline f) (rw flying) in
       record { base = h.base; later = omega arith; line = line_on t' h.base h.base (b ++ (q ∷ a)) until h.line }
 
-  pub timely-free : (t' : ℕ) (live : List Request) → All (λ q. flies q ≡ none) live → All (λ q. queued_in q.state ≡ none) live
+  pub timely_free : (t' : ℕ) (live : List Request) → All (λ q. flies q ≡ none) live → All (λ q. queued_in q.state ≡ none) live
       → All (Until t') live → Timely limit t accepted live → Timely limit t' accepted live
-  timely-free t' live down idle until h =
+  timely_free t' live down idle until h =
       record {
         base = t';
         later = omega arith;
@@ -381,12 +381,12 @@ module _ (limit t : ℕ) (accepted : Request → ℕ) where
 -- what is left of the time
 module _ (limit t : ℕ) (accepted : Request → ℕ) where
   -- none is live for longer than 3,000 ms for each that may be live, and 3,000 more
-  pub line-in-time : (base free : ℕ) (qs : List Request) → t ≤ base → base ≤ free → Line limit t base free accepted qs
+  pub line_in_time : (base free : ℕ) (qs : List Request) → t ≤ base → base ≤ free → Line limit t base free accepted qs
       → All (λ q. t ≤ accepted q + 3000 * limit + 3000) qs
-  line-in-time base free [] on more h = tt
-  line-in-time base free (q ∷ qs) on more h =
+  line_in_time base free [] on more h = tt
+  line_in_time base free (q ∷ qs) on more h =
       let grown = after-grows limit t accepted free q.state in
-      (here q.state h.0, line-in-time base (free_after free q.state) qs on (omega arith) h.1)
+      (here q.state h.0, line_in_time base (free_after free q.state) qs on (omega arith) h.1)
     where
       here : (s : State) → Ok limit t base free (accepted q) s → t ≤ accepted q + 3000 * limit + 3000
       here queued ok = omega arith
@@ -394,8 +394,8 @@ module _ (limit t : ℕ) (accepted : Request → ℕ) where
       here (waiting since) ok = omega arith
 
   -- before its deadline a wait is not over
-  pub current-wait : (since : ℕ) → overdue_in t (waiting since) ≡ none → t < since + response_time
-  current-wait since h =
+  pub current_wait : (since : ℕ) → overdue_in t (waiting since) ≡ none → t < since + response_time
+  current_wait since h =
       by_test (λ b. leb response_time (t - since) ≡ b → provided {A = Unit {0}} b tt ≡ none → t < since + response_time)
       (leb response_time (t - since))
       (λ b e k. let z : ◌≡◌ {A = ℕ} 0 1 = cc in absurd (omega arith))
@@ -413,19 +413,19 @@ module _ (limit t : ℕ) (accepted : Request → ℕ) where
       here : (s : State) → overdue_in t s ≡ none → Ok limit t base free (accepted q) s → t < accepted q + 3000 * limit + 3000
       here queued k ok = omega arith
       here (in_flight f) k ok = omega arith
-      here (waiting since) k ok = let less = current-wait since k in omega arith
+      here (waiting since) k ok = let less = current_wait since k in omega arith
 
-  pub early-busy : (b a : List Request) (q : Request) {f : Frame} → q.state ≡ in_flight f → f.transmissions ≤ max_transmissions
+  pub early_busy : (b a : List Request) (q : Request) {f : Frame} → q.state ≡ in_flight f → f.transmissions ≤ max_transmissions
       → due f t ≡ false → All (λ x. overdue_in t x.state ≡ none) (b ++ (q ∷ a)) → Timely limit t accepted (b ++ (q ∷ a))
       → All (λ x. t < accepted x + 3000 * limit + 3000) (b ++ (q ∷ a))
-  early-busy b a q {f} flying few calm current h =
+  early_busy b a q {f} flying few calm current h =
       let by = flown-by limit t accepted h.base h.base b a q flying few h.line in
       let less = (not_due f t calm).early in
       line-early h.base h.base (b ++ (q ∷ a)) (omega arith) (omega arith) current h.line
 
-  pub early-free : (live : List Request) → All (λ x. flies x ≡ none) live → All (λ x. queued_in x.state ≡ none) live
+  pub early_free : (live : List Request) → All (λ x. flies x ≡ none) live → All (λ x. queued_in x.state ≡ none) live
       → All (λ x. overdue_in t x.state ≡ none) live → Timely limit t accepted live
       → All (λ x. t < accepted x + 3000 * limit + 3000) live
-  early-free live down idle current h =
+  early_free live down idle current h =
       line-early (suc h.base) (suc h.base) live (let on = h.later in omega arith) (omega arith) current
       (line-idle limit t accepted h.base h.base (suc h.base) (suc h.base) live down idle h.line)

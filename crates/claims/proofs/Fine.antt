@@ -24,7 +24,7 @@ use Rattle.claims.specs.Trace.{id_in}
 use Rattle.ledger.proofs.Cases.{by_test}
 use Rattle.claims.specs.Clauses.{Enough}
 use Rattle.claims.proofs.Lists.{all_map, all_append, all_left, all_right}
-use Rattle.ledger.proofs.FreeId.{Unreserved, after-unreserved, first-free, free-unreserved}
+use Rattle.ledger.proofs.FreeId.{Unreserved, after_unreserved, first_free_law, free_unreserved}
 use Rattle.claims.proofs.Views.{Turn, acknowledges, marks, starts, sends_again, Change, stays, joins, leaves, turns, rests_free, rests_busy, View, refuses, accepts}
 
 -- the state of a request, at a reading
@@ -213,7 +213,7 @@ pub issued_free : (limit : ℕ) → Enough limit → (l : Ledger) → Fine limit
 issued_free limit enough l h room =
     let small = h.small in
     let few = h.fit.few in
-    first-free l.reserved (omega arith) (length l.live) l.live (omega arith) (omega (arith, room)) h.next
+    first_free_law l.reserved (omega arith) (length l.live) l.live (omega arith) (omega (arith, room)) h.next
 
 module _ (limit : ℕ) (l : Ledger) (h : Fine limit l) where
   -- where a call issues an ID, there is room, and then the ID is not live
@@ -245,7 +245,7 @@ module _ (limit : ℕ) (l : Ledger) (h : Fine limit l) where
       go (turns b a q s frame among turn first shows e) =
           rw e (fit-turn l b a q turn (λ new. ap flights (sym among) ∙ none_flying l.live (first new).0) (rw among at now))
       go (joins q new named short room shows e) =
-          rw e (fit-more l.live q new (rw named (free-unreserved l.reserved small (length l.live) l.live h.next))
+          rw e (fit-more l.live q new (rw named (free_unreserved l.reserved small (length l.live) l.live h.next))
           short
           (rw named (free q.id shows.asks room)) room now)
 
@@ -266,7 +266,7 @@ module _ (limit : ℕ) (l : Ledger) (h : Fine limit l) where
           → Unreserved l.reserved d.next.next_id
       ids below (inl e) = rw e h.next
       ids below (inr e) =
-          rw e (after-unreserved l.reserved below (free-unreserved l.reserved below (length l.live) l.live h.next))
+          rw e (after_unreserved l.reserved below (free_unreserved l.reserved below (length l.live) l.live h.next))
 
 pub fine_step : (limit : ℕ) → Enough limit → (l : Ledger) (c : Call) {d : Done} → Fine limit l → View limit l c d → Fine limit d.next
 fine_step limit enough l c h v = fine-kept limit l h c (λ id asked room. issued_free limit enough l h room) v

@@ -88,39 +88,39 @@ named id before owner = record { asked = there-is; live = is-live-one }
 
 module _ (limit reserved : ℕ) (past : List Entry) (claims : OutcomeClaims limit reserved past) where
   -- "Its frame goes out .. three": how many there are of a request, and any two of them
-  pub three-frames : (place : ℕ) → length (frames place past) ≤ 3
-  three-frames place = (claims.alike place).three
+  pub three_frames : (place : ℕ) → length (frames place past) ≤ 3
+  three_frames place = (claims.alike place).three
 
-  pub two-frames : (place : ℕ) (f g : List ℕ) → f ∈ frames place past → g ∈ frames place past → f ≡ g
-  two-frames place f g m n = any_two (frames place past) (claims.alike place).alike f g m n
+  pub two_frames : (place : ℕ) (f g : List ℕ) → f ∈ frames place past → g ∈ frames place past → f ≡ g
+  two_frames place f g m n = any_two (frames place past) (claims.alike place).alike f g m n
 
   -- any request: live and not ended, or ended once
-  pub one-request : (a : Asked) → a ∈ requests past → ((a ∈ live_after past) × (endings a.place past ≡ 0)) ⊎ (endings a.place past ≡ 1)
-  one-request a m = told (all_of (Fate past) (requests past) claims.fates a m)
+  pub one_request : (a : Asked) → a ∈ requests past → ((a ∈ live_after past) × (endings a.place past ≡ 0)) ⊎ (endings a.place past ≡ 1)
+  one_request a m = told (all_of (Fate past) (requests past) claims.fates a m)
     where
       told : Fate past a → ((a ∈ live_after past) × (endings a.place past ≡ 0)) ⊎ (endings a.place past ≡ 1)
       told (still_live live unended) = inl (live, unended)
       told (has_ended once) = inr once
 
   -- any live one: "Unreserved means above R."
-  pub above-r : (a : Asked) → a ∈ live_after past → (reserved < a.id) × (a.id ≤ 65535)
-  above-r a m = all_of (λ x. (reserved < x.id) × (x.id ≤ 65535)) (live_after past) claims.unreserved a m
+  pub above_r : (a : Asked) → a ∈ live_after past → (reserved < a.id) × (a.id ≤ 65535)
+  above_r a m = all_of (λ x. (reserved < x.id) × (x.id ≤ 65535)) (live_after past) claims.unreserved a m
 
   -- any two live ones
-  pub two-live : (older between newer : List Asked) (a b : Asked) → live_after past ≡ older ++ (a ∷ (between ++ (b ∷ newer)))
+  pub two_live : (older between newer : List Asked) (a b : Asked) → live_after past ≡ older ++ (a ∷ (between ++ (b ∷ newer)))
       → a.id ≡ b.id → ⊥
-  two-live older between newer a b among same = apart older between newer a b (subst DistinctIds among claims.distinct) same
+  two_live older between newer a b among same = apart older between newer a b (subst DistinctIds among claims.distinct) same
 
   -- any ending and any frame: there is a request before it whose ID it names, and the last such is live
   module _ (newer before : List Entry) (e : Entry) (at : past ≡ newer ++ (e ∷ before)) where
     its : Belongs e before
     its = belongs_at newer before e (subst AllBelong at claims.belong)
 
-    pub ending-named : (x : Ending) → ending_in e.answer ≡ some x → Named x.id before
-    ending-named x told = named x.id before (its.ending x told)
+    pub ending_named : (x : Ending) → ending_in e.answer ≡ some x → Named x.id before
+    ending_named x told = named x.id before (its.ending x told)
 
-    pub frame-named : (bytes : List ℕ) → frame_in e ≡ some bytes → Named (named_by bytes) before
-    frame-named bytes out = named (named_by bytes) before (its.frame bytes out)
+    pub frame_named : (bytes : List ℕ) → frame_in e ≡ some bytes → Named (named_by bytes) before
+    frame_named bytes out = named (named_by bytes) before (its.frame bytes out)
 
 -- the next request ID may be issued: it is above R
 pub next_above_r : (limit reserved : ℕ) (s : Run) → LedgerClaims limit reserved s

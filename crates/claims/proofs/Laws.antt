@@ -48,10 +48,10 @@ use Rattle.claims.specs.PlainTerms.{counts, Matched, Named, NothingToDo, QuietTi
 use Rattle.claims.proofs.Fine as fine
 use Rattle.claims.proofs.Fine.{not_malformed}
 use Rattle.claims.proofs.Views.{view}
-use Rattle.claims.proofs.Along.{start_good, good-run}
+use Rattle.claims.proofs.Along.{start_good, good_run}
 use Rattle.claims.proofs.Hearing as hearing
 use Rattle.claims.proofs.QuietTime as quiet-times
-use Rattle.claims.proofs.Bound.{always-bounded}
+use Rattle.claims.proofs.Bound.{always_bounded}
 use Rattle.claims.proofs.Resting as resting
 use Rattle.claims.proofs.RestingWitness.{no_sooner}
 use Rattle.claims.proofs.WhilePolled as while-polled
@@ -102,7 +102,7 @@ pub issued_not_live : (limit : ℕ) → Enough limit → (given : ℕ) (cs : Lis
     → is_live (issued (run limit (start given) cs).ledger) (run limit (start given) cs).ledger.live ≡ false
 issued_not_live limit enough given cs room =
     fine.issued_free limit enough (run limit (start given) cs).ledger
-    (good-run limit enough (start given) cs (start_good limit given)).fine room
+    (good_run limit enough (start given) cs (start_good limit given)).fine room
 
 -- and it is the first such from the next request ID on: those that are passed over are live
 pub issued_is_first : (limit : ℕ) → Enough limit → (given : ℕ) (cs : List Call)
@@ -111,7 +111,7 @@ pub issued_is_first : (limit : ℕ) → Enough limit → (given : ℕ) (cs : Lis
     → FirstNotLive (run limit (start given) cs).ledger id
 issued_is_first limit enough given cs fields bytes wanted t id h =
     issued.first_not_live limit enough (run limit (start given) cs).ledger
-    (good-run limit enough (start given) cs (start_good limit given)).fine fields bytes wanted t id h
+    (good_run limit enough (start given) cs (start_good limit given)).fine fields bytes wanted t id h
 
 -- what an accepted submit changes, and that all else stays: held bytes, last SEQ, next SEQ, R and every other request
 pub submit_changes : (limit : ℕ) (l : Ledger) (fields : Fields) (bytes : List ℕ) (wanted : Bool) (t id : ℕ)
@@ -183,7 +183,7 @@ pub quiet_time : (limit : ℕ) → Enough limit → (given : ℕ) (cs : List Cal
     → QuietTime (run limit (start given) cs).ledger.live time
 quiet_time limit enough given cs c time h =
     let l = (run limit (start given) cs).ledger in
-    quiet-times.quiet_time limit l c (step limit l c) time (good-run limit enough (start given) cs (start_good limit given)).fine
+    quiet-times.quiet_time limit l c (step limit l c) time (good_run limit enough (start given) cs (start_good limit given)).fine
     (view limit l c) h
 
 pub quiet_1_to_3000 : (live : List Request) (time : Option ℕ) → QuietTime live time → (ms : ℕ) → time ≡ some ms → (1 ≤ ms) × (ms ≤ 3000)
@@ -225,7 +225,7 @@ pub outcome_claims : (limit : ℕ) → Enough limit → (given : ℕ) (cs : List
     → OutcomeClaims limit (reserved_for given) (run limit (start given) cs).past
 outcome_claims limit enough given cs =
     let s = run limit (start given) cs in
-    let good = good-run limit enough (start given) cs (start_good limit given) in
+    let good = good_run limit enough (start given) cs (start_good limit given) in
     let h = s.past in
     let live = live_after h in
     let fit = good.fine.fit in
@@ -253,36 +253,36 @@ not_refused_accepted a h = words.not_refused_accepted a h
 module _ (limit reserved : ℕ) (past : List Entry) (claims : OutcomeClaims limit reserved past) where
   -- "An ending or a polled frame belongs to the last request before it whose ID it names .., and there always is one."
   module _ (newer before : List Entry) (e : Entry) (at : past ≡ newer ++ (e ∷ before)) where
-    pub ending-named : (x : Ending) → ending_in e.answer ≡ some x → Named x.id before
-    ending-named x told = words.ending-named limit reserved past claims newer before e at x told
+    pub ending_named : (x : Ending) → ending_in e.answer ≡ some x → Named x.id before
+    ending_named x told = words.ending_named limit reserved past claims newer before e at x told
 
-    pub frame-named : (bytes : List ℕ) → frame_in e ≡ some bytes → Named (named_by bytes) before
-    frame-named bytes out = words.frame-named limit reserved past claims newer before e at bytes out
+    pub frame_named : (bytes : List ℕ) → frame_in e ≡ some bytes → Named (named_by bytes) before
+    frame_named bytes out = words.frame_named limit reserved past claims newer before e at bytes out
 
   -- "A request is live until an ending that belongs to it."
-  pub one-request : (a : Asked) → a ∈ requests past
+  pub one_request : (a : Asked) → a ∈ requests past
       → ((a ∈ live_after past) × (endings a.place past ≡ 0)) ⊎ (endings a.place past ≡ 1)
-  one-request a asked = words.one-request limit reserved past claims a asked
+  one_request a asked = words.one_request limit reserved past claims a asked
 
   -- "Its frame goes out as often as polls put one that belongs to it in their output; all of these are equal"
-  pub three-frames : (place : ℕ) → length (frames place past) ≤ 3
-  three-frames place = words.three-frames limit reserved past claims place
+  pub three_frames : (place : ℕ) → length (frames place past) ≤ 3
+  three_frames place = words.three_frames limit reserved past claims place
 
-  pub two-frames : (place : ℕ) (f g : List ℕ) → f ∈ frames place past → g ∈ frames place past → f ≡ g
-  two-frames place f g one other = words.two-frames limit reserved past claims place f g one other
+  pub two_frames : (place : ℕ) (f g : List ℕ) → f ∈ frames place past → g ∈ frames place past → f ≡ g
+  two_frames place f g one other = words.two_frames limit reserved past claims place f g one other
 
   -- "Unreserved means above R."
-  pub above-r : (a : Asked) → a ∈ live_after past → (reserved < a.id) × (a.id ≤ 65535)
-  above-r a live = words.above-r limit reserved past claims a live
+  pub above_r : (a : Asked) → a ∈ live_after past → (reserved < a.id) × (a.id ≤ 65535)
+  above_r a live = words.above_r limit reserved past claims a live
 
-  pub two-live : (older between newer : List Asked) (a b : Asked) → live_after past ≡ older ++ (a ∷ (between ++ (b ∷ newer)))
+  pub two_live : (older between newer : List Asked) (a b : Asked) → live_after past ≡ older ++ (a ∷ (between ++ (b ∷ newer)))
       → a.id ≡ b.id → ⊥
-  two-live older between newer a b among same = words.two-live limit reserved past claims older between newer a b among same
+  two_live older between newer a b among same = words.two_live limit reserved past claims older between newer a b among same
 
 -- under "the rule for the clock" every request ends in time: 3,000 ms for each that may be live, and 3,000
 pub ends_in_time : (limit : ℕ) → Enough limit → (given : ℕ) (cs : List Call)
     → Bounded (longest limit) (run limit (start given) cs).past
-ends_in_time limit enough given cs = always-bounded limit enough given cs
+ends_in_time limit enough given cs = always_bounded limit enough given cs
 
 -- who keeps polling meets a quiet answer, and so the bound: where the newest accepted calls are so many polls at one reading, every
 -- request that was accepted so long before has ended. This is from calls and outcomes alone, for every bound that they keep
@@ -307,7 +307,7 @@ pub ledger_claims : (limit : ℕ) → Enough limit → (given : ℕ) (cs : List 
     → LedgerClaims limit (reserved_for given) (run limit (start given) cs)
 ledger_claims limit enough given cs =
     let s = run limit (start given) cs in
-    let good = good-run limit enough (start given) cs (start_good limit given) in
+    let good = good_run limit enough (start given) cs (start_good limit given) in
     let same = reserved_stays limit (start given) cs in
     let above = good.fine.next.above in
     let within = good.fine.next.within in

@@ -39,16 +39,16 @@ module _ {A : Type 0} where
   in_left x (y ∷ xs) ys here = here
   in_left x (y ∷ xs) ys (there m) = there (in_left x xs ys m)
 
-  pub append-nil : (xs : List A) → xs ++ [] ≡ xs
-  append-nil [] = refl
-  append-nil (x ∷ xs) = ap (x ∷◌) (append-nil xs)
+  pub append_nil : (xs : List A) → xs ++ [] ≡ xs
+  append_nil [] = refl
+  append_nil (x ∷ xs) = ap (x ∷◌) (append_nil xs)
 
-  pub append-append : (xs ys zs : List A) → (xs ++ ys) ++ zs ≡ xs ++ (ys ++ zs)
-  append-append [] ys zs = refl
-  append-append (x ∷ xs) ys zs = ap (x ∷◌) (append-append xs ys zs)
+  pub append_append : (xs ys zs : List A) → (xs ++ ys) ++ zs ≡ xs ++ (ys ++ zs)
+  append_append [] ys zs = refl
+  append_append (x ∷ xs) ys zs = ap (x ∷◌) (append_append xs ys zs)
 
   -- what stands in front, and its length
-  pub take-front : (xs ys : List A) → take (length xs) (xs ++ ys) ≡ xs
-  take-front [] [] = refl
-  take-front [] (y ∷ ys) = refl
-  take-front (x ∷ xs) ys = ap (x ∷◌) (take-front xs ys)
+  pub take_front : (xs ys : List A) → take (length xs) (xs ++ ys) ≡ xs
+  take_front [] [] = refl
+  take_front [] (y ∷ ys) = refl
+  take_front (x ∷ xs) ys = ap (x ∷◌) (take_front xs ys)

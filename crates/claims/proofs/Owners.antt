@@ -127,13 +127,13 @@ owners_join h (z ∷ live) (y ∷ qs) x q own new = (own.0, owners_join h live q
 
 module _ (h h' : List Entry) (q : Request) (keep : (x : Asked) (y : Request) → Apart q y → Own h x y → Own h' x y) where
   -- where one goes into another state
-  pub owners-turn : (s : State) → ((x : Asked) → Own h x q → Own h' x (with_state s q)) → (live : List Asked) (b a : List Request)
+  pub owners_turn : (s : State) → ((x : Asked) → Own h x q → Own h' x (with_state s q)) → (live : List Asked) (b a : List Request)
       → All (Apart q) b → All (Apart q) a → Owners h live (b ++ (q ∷ a)) → Owners h' live (b ++ (with_state s q ∷ a))
-  owners-turn s turn [] [] a before after own = absurd own
-  owners-turn s turn (x ∷ live) [] a before after own = (turn x own.0, owners_kept h h' (Apart q) keep live a after own.1)
-  owners-turn s turn [] (y ∷ b) a before after own = absurd own
-  owners-turn s turn (x ∷ live) (y ∷ b) a before after own =
-      (keep x y before.0 own.0, owners-turn s turn live b a before.1 after own.1)
+  owners_turn s turn [] [] a before after own = absurd own
+  owners_turn s turn (x ∷ live) [] a before after own = (turn x own.0, owners_kept h h' (Apart q) keep live a after own.1)
+  owners_turn s turn [] (y ∷ b) a before after own = absurd own
+  owners_turn s turn (x ∷ live) (y ∷ b) a before after own =
+      (keep x y before.0 own.0, owners_turn s turn live b a before.1 after own.1)
 
   module _ (gone : Asked) (its : last_asked q.id h ≡ some gone) where
     elsewhere : (x : Asked) (y : Request) → Apart q y → Own h x y → eqb gone.place x.place ≡ false
@@ -150,13 +150,13 @@ module _ (h h' : List Entry) (q : Request) (keep : (x : Asked) (y : Request) →
     owners-after (x ∷ live) (y ∷ a) apart own =
         rw (elsewhere x y apart.0 own.0) (keep x y apart.0 own.0, owners-after live a apart.1 own.1)
 
-    pub owners-leave : (live : List Asked) (b a : List Request) → All (Apart q) b → All (Apart q) a → Owners h live (b ++ (q ∷ a))
+    pub owners_leave : (live : List Asked) (b a : List Request) → All (Apart q) b → All (Apart q) a → Owners h live (b ++ (q ∷ a))
         → Owners h' (without (some gone) live) (b ++ a)
     unfolding without
-    owners-leave [] [] a before after own = absurd own
-    owners-leave (x ∷ live) [] a before after own =
+    owners_leave [] [] a before after own = absurd own
+    owners_leave (x ∷ live) [] a before after own =
         let same : gone ≡ x = some_same (sym its ∙ own.0.last) in
         rw (eq-eqb gone.place x.place (ap (λ (y : Asked). y.place) same)) (owners-after live a after own.1)
-    owners-leave [] (y ∷ b) a before after own = absurd own
-    owners-leave (x ∷ live) (y ∷ b) a before after own =
-        rw (elsewhere x y before.0 own.0) (keep x y before.0 own.0, owners-leave live b a before.1 after own.1)
+    owners_leave [] (y ∷ b) a before after own = absurd own
+    owners_leave (x ∷ live) (y ∷ b) a before after own =
+        rw (elsewhere x y before.0 own.0) (keep x y before.0 own.0, owners_leave live b a before.1 after own.1)

@@ -19,7 +19,7 @@ use Rattle.claims.proofs.Lists.{all_append, all_left, all_right, all_both}
 use Rattle.claims.proofs.Views.{quiet_in, Change, stays, joins, leaves, turns, rests_free, rests_busy, View, refuses, accepts}
 use Rattle.claims.proofs.Fine.{Steady, Sound, Fine, flights_append}
 use Rattle.claims.proofs.Along.{now_sound}
-use Rattle.claims.proofs.Deadlines.{Until, some_number, no_deadline, least, not_before, current-wait}
+use Rattle.claims.proofs.Deadlines.{Until, some_number, no_deadline, least, not_before, current_wait}
 
 -- none in flight beside one
 alone : (t : ℕ) (qs : List Request) → flights qs ≡ 0 → All (λ q. flies q ≡ none) qs
@@ -44,7 +44,7 @@ waits_on t q current down = go q.state current down
     go queued c h d k = let z : ◌≡◌ {A = ℕ} 0 1 = cc in absurd (omega arith)
     go (in_flight f) c h d k = let z : ◌≡◌ {A = ℕ} 0 1 = cc in absurd (omega arith)
     go (waiting since) c h d k = let g : since + response_time ≡ d = cc in let less =
-        current-wait 0 t (λ x. 0) since c in omega arith
+        current_wait 0 t (λ x. 0) since c in omega arith
 
 -- the time, from the deadlines
 by_deadlines : (t : ℕ) (live : List Request) → All (Until (suc t)) live → ((m : ℕ) → earliest live ≡ some m → m ≤ t + response_time)

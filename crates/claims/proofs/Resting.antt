@@ -32,7 +32,7 @@ use Rattle.claims.proofs.PollCases.{Acted, no_response_law, goes_again, gives_up
 use Rattle.claims.proofs.Views.{View, refuses, accepts, view}
 use Rattle.claims.proofs.Fine.{Fine, fine_calm, not_malformed}
 use Rattle.claims.proofs.SoundFine.{fine_of}
-use Rattle.claims.proofs.Along.{Good, entry_of, good-step, start_good}
+use Rattle.claims.proofs.Along.{Good, entry_of, good_step, start_good}
 
 -- whether polls at a reading may have something to do for a request, as a number: it is queued, due or overdue
 abbrev stirs : (t : ℕ) → State → ℕ
@@ -222,7 +222,7 @@ module _ (limit t : ℕ) where
   unfolding run
   restful-run enough s [] good before = before
   restful-run enough s (c ∷ cs) good before =
-      let next = good-step limit enough s c good in
+      let next = good_step limit enough s c good in
       restful-run enough (then limit s c) cs next
       (restful-after s.ledger c s.past next.fine (view limit s.ledger c) before)
 

@@ -21,8 +21,8 @@ use Rattle.ledger.proofs.Cases.{by_test}
 use Rattle.claims.proofs.Lists.{all_map, all_append, in_left, in_right}
 use Rattle.claims.proofs.Views.{Turn, acknowledges, marks, starts, sends_again}
 use Rattle.claims.proofs.Fine.{Steady, Distinct}
-use Rattle.claims.proofs.Belonging.{frame_names, asks_none, asks-other, asks-it, ends-none, ends-one, sends_none, sends-one, live-ends, live-stays, live_joins, requests_stay, requests_join, none_ended, none_sent, one_name}
-use Rattle.claims.proofs.Owners.{Sent, Own, Owners, few_sent, sent_more, sent_turn, sent_same, Apart, not_live, distinct_apart, owner_of, owners_kept, owners_join, owners-turn, owners-leave}
+use Rattle.claims.proofs.Belonging.{frame_names, asks_none, asks_other, asks_it, ends_none, ends_one, sends_none, sends_one, live_ends, live_stays, live_joins, requests_stay, requests_join, none_ended, none_sent, one_name}
+use Rattle.claims.proofs.Owners.{Sent, Own, Owners, few_sent, sent_more, sent_turn, sent_same, Apart, not_live, distinct_apart, owner_of, owners_kept, owners_join, owners_turn, owners_leave}
 
 -- what has happened, beside the live requests of a ledger
 pub record Told (h : List Entry) (live : List Request) : Type 0 where
@@ -58,18 +58,18 @@ module _ (e : Entry) (h : List Entry) where
       record { last = same-last ∙ own.last; open_still = same_ends ∙ own.open_still; sent = rw same_sent own.sent }
 
   fate-kept : live_after (e ∷ h) ≡ live_after h → ending_in e.answer ≡ none → (a : Asked) → Fate h a → Fate (e ∷ h) a
-  fate-kept same ended a (still_live among not_yet) = still_live (rw same among) (ends-none e h a.place ended ∙ not_yet)
-  fate-kept same ended a (has_ended once) = has_ended (ends-none e h a.place ended ∙ once)
+  fate-kept same ended a (still_live among not_yet) = still_live (rw same among) (ends_none e h a.place ended ∙ not_yet)
+  fate-kept same ended a (has_ended once) = has_ended (ends_none e h a.place ended ∙ once)
 
-  pub told-calm : (live : List Request) → id_in e.answer ≡ none → ending_in e.answer ≡ none → frame_in e ≡ none → Told h live
+  pub told_calm : (live : List Request) → id_in e.answer ≡ none → ending_in e.answer ≡ none → frame_in e ≡ none → Told h live
       → Told (e ∷ h) live
-  told-calm live asked ended sent told =
-      let same = live-stays e h asked ended in
+  told_calm live asked ended sent told =
+      let same = live_stays e h asked ended in
       record {
         owners = rw same (owners_kept h (e ∷ h) (λ q. Unit) (λ x q any own.
-            own-kept x q (asks_none e h q.id asked) (ends-none e h x.place ended) (sends_none e h x.place sent) own)
+            own-kept x q (asks_none e h q.id asked) (ends_none e h x.place ended) (sends_none e h x.place sent) own)
             (live_after h) live (anything live) told.owners);
-        once = λ k. rw (ends-none e h k ended) (told.once k);
+        once = λ k. rw (ends_none e h k ended) (told.once k);
         few = λ k. rw (sends_none e h k sent) (told.few k);
         belongs = (nothing_belongs ended sent, told.belongs);
         fates = rw (requests_stay e h asked) (all_map (Fate h) (Fate (e ∷ h)) (fate-kept same ended) (requests h) told.fates);
@@ -79,23 +79,23 @@ module _ (e : Entry) (h : List Entry) where
       anything [] = tt
       anything (q ∷ qs) = (tt, anything qs)
 
-  pub told-join : (live : List Request) (q : Request) → q.state ≡ queued → is_live q.id live ≡ false
+  pub told_join : (live : List Request) (q : Request) → q.state ≡ queued → is_live q.id live ≡ false
       → id_in e.answer ≡ some q.id → ending_in e.answer ≡ none → frame_in e ≡ none → Told h live
       → Told (e ∷ h) (live ++ (q ∷ []))
-  told-join live q new free asked ended sent told =
+  told_join live q new free asked ended sent told =
       let more = live_joins e h asked ended in
       let its : Asked = asked_as e (length h) q.id in
-      let not_yet = ends-none e h (length h) ended ∙ none_ended h (length h) (omega arith) in
+      let not_yet = ends_none e h (length h) ended ∙ none_ended h (length h) (omega arith) in
       let unsent : Sent q q.state (frames (length h) (e ∷ h)) =
       rw new (sends_none e h (length h) sent ∙ none_sent h (length h) (omega arith)) in
       record {
         owners = rw more (owners_join (e ∷ h) (live_after h) live its q
             (owners_kept h (e ∷ h) (Apart q) (λ x y apart own.
-            own-kept x y (asks-other e h y.id asked (λ same. apart (sym same))) (ends-none e h x.place ended)
+            own-kept x y (asks_other e h y.id asked (λ same. apart (sym same))) (ends_none e h x.place ended)
             (sends_none e h x.place sent) own)
             (live_after h) live (not_live q.id live free) told.owners)
-            (record { last = asks-it e h asked; open_still = not_yet; sent = unsent }));
-        once = λ k. rw (ends-none e h k ended) (told.once k);
+            (record { last = asks_it e h asked; open_still = not_yet; sent = unsent }));
+        once = λ k. rw (ends_none e h k ended) (told.once k);
         few = λ k. rw (sends_none e h k sent) (told.few k);
         belongs = (nothing_belongs ended sent, told.belongs);
         fates = rw (requests_join e h asked)
@@ -107,23 +107,23 @@ module _ (e : Entry) (h : List Entry) where
       older : live_after (e ∷ h) ≡ live_after h ++ (asked_as e (length h) q.id ∷ []) → (a : Asked) → Fate h a → Fate (e ∷ h) a
       older more a (still_live among not_yet) =
           still_live (rw more (in_left a (live_after h) (asked_as e (length h) q.id ∷ []) among))
-          (ends-none e h a.place ended ∙ not_yet)
-      older more a (has_ended once) = has_ended (ends-none e h a.place ended ∙ once)
+          (ends_none e h a.place ended ∙ not_yet)
+      older more a (has_ended once) = has_ended (ends_none e h a.place ended ∙ once)
 
   -- a request leaves with an ending that names it
-  pub told-leave : (b a : List Request) (q : Request) (x : Ending) → Distinct (b ++ (q ∷ a)) → id_in e.answer ≡ none
+  pub told_leave : (b a : List Request) (q : Request) (x : Ending) → Distinct (b ++ (q ∷ a)) → id_in e.answer ≡ none
       → ending_in e.answer ≡ some x → x.id ≡ q.id → frame_in e ≡ none → Told h (b ++ (q ∷ a)) → Told (e ∷ h) (b ++ a)
-  told-leave b a q x distinct asked ended named sent told =
+  told_leave b a q x distinct asked ended named sent told =
       let its = owner_of h (live_after h) b a q told.owners in
       let gone = its.0 in
       let own = its.1 in
       let last : last_asked x.id h ≡ some gone = rw named own.last in
-      let less = live-ends e h asked ended last in
+      let less = live_ends e h asked ended last in
       let apart = distinct_apart b a q distinct in
       record {
-        owners = rw less (owners-leave h (e ∷ h) q (λ y r away kept.
+        owners = rw less (owners_leave h (e ∷ h) q (λ y r away kept.
             own-kept y r (asks_none e h r.id asked)
-            (ends-one e h y.place ended last ∙ rw (ne_eqb gone.place y.place
+            (ends_one e h y.place ended last ∙ rw (ne_eqb gone.place y.place
             (λ same. away (sym (one_name q.id r.id h own.last kept.last same)))) (omega arith))
             (sends_none e h y.place sent) kept)
             gone own.last (live_after h) b a apart.0 apart.1 told.owners);
@@ -144,7 +144,7 @@ module _ (e : Entry) (h : List Entry) where
       ended-once : (gone : Asked) → endings gone.place h ≡ 0 → last_asked x.id h ≡ some gone → (k : ℕ) → endings k (e ∷ h) ≤ 1
       ended-once gone not_yet last k =
           let before = told.once k in
-          rw (ends-one e h k ended last)
+          rw (ends_one e h k ended last)
           (by_test (λ t. (if t 1 0) + endings k h ≤ 1) (eqb gone.place k)
           (λ t. let none : endings k h ≡ 0 = rw (sym (eqb-true gone.place k t)) not_yet in omega arith)
           (λ t. omega arith))
@@ -158,10 +158,10 @@ module _ (e : Entry) (h : List Entry) where
           (eqb gone.place y.place)
           (λ t k count. has_ended (omega arith))
           (λ t k count. still_live (rw less (stays_among gone y k (live_after h) among)) (omega arith))
-          refl (ends-one e h y.place ended last)
+          refl (ends_one e h y.place ended last)
       fate gone not_yet last less y (has_ended once) =
           let most = ended-once gone not_yet last y.place in
-          let count = ends-one e h y.place ended last in
+          let count = ends_one e h y.place ended last in
           has_ended (omega arith)
 
   -- a request goes into another state, perhaps with a frame sent
@@ -182,39 +182,39 @@ module _ (e : Entry) (h : List Entry) where
     frames-here none turn sent last k at = sends_none e h k sent
     frames-here {x = x} (some bytes) turn sent last k at =
         let named : last_asked (named_by bytes) h ≡ some x = rw (turn-names turn refl) last in
-        sends-one e h k sent named ∙ rw (eq-eqb x.place k at)
+        sends_one e h k sent named ∙ rw (eq-eqb x.place k at)
 
     frames-there : {from to : State} {x : Asked} (frame : Option (List ℕ)) → Turn l t q from to frame → frame_in e ≡ frame
         → last_asked q.id h ≡ some x → (k : ℕ) → (x.place ≡ k → ⊥) → frames k (e ∷ h) ≡ frames k h
     frames-there none turn sent last k away = sends_none e h k sent
     frames-there {x = x} (some bytes) turn sent last k away =
         let named : last_asked (named_by bytes) h ≡ some x = rw (turn-names turn refl) last in
-        sends-one e h k sent named ∙ rw (ne_eqb x.place k away)
+        sends_one e h k sent named ∙ rw (ne_eqb x.place k away)
 
-    pub told-turn : (b a : List Request) (s : State) (frame : Option (List ℕ)) → Distinct (b ++ (q ∷ a))
+    pub told_turn : (b a : List Request) (s : State) (frame : Option (List ℕ)) → Distinct (b ++ (q ∷ a))
         → Turn l t q q.state s frame
         → Steady t q.wanted q.state → Steady t q.wanted s → id_in e.answer ≡ none → ending_in e.answer ≡ none
         → frame_in e ≡ frame → Told h (b ++ (q ∷ a)) → Told (e ∷ h) (b ++ (with_state s q ∷ a))
-    told-turn b a s frame distinct turn was now asked ended sent told =
+    told_turn b a s frame distinct turn was now asked ended sent told =
         let its = owner_of h (live_after h) b a q told.owners in
         let x = its.0 in
         let own = its.1 in
-        let same = live-stays e h asked ended in
+        let same = live_stays e h asked ended in
         let apart = distinct_apart b a q distinct in
         record {
-          owners = rw same (owners-turn h (e ∷ h) q
-              (λ y r away kept. own-kept y r (asks_none e h r.id asked) (ends-none e h y.place ended)
+          owners = rw same (owners_turn h (e ∷ h) q
+              (λ y r away kept. own-kept y r (asks_none e h r.id asked) (ends_none e h y.place ended)
               (frames-there frame turn sent own.last y.place
               (λ k. away (sym (one_name q.id r.id h own.last kept.last k)))) kept)
               s (λ y kept. record {
                 last = asks_none e h q.id asked ∙ kept.last;
-                open_still = ends-none e h y.place ended ∙ kept.open_still;
+                open_still = ends_none e h y.place ended ∙ kept.open_still;
                 sent = rw (frames-here frame turn sent kept.last y.place refl)
                     (sent_same q s s (sent_more frame (frames y.place h))
                     (sent_turn l t q (frames y.place h) turn was kept.sent));
               })
               (live_after h) b a apart.0 apart.1 told.owners);
-          once = λ k. rw (ends-none e h k ended) (told.once k);
+          once = λ k. rw (ends_none e h k ended) (told.once k);
           few = few-still x own;
           belongs = (
             record {

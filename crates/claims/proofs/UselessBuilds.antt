@@ -24,7 +24,7 @@ use Rattle.claims.specs.PlainTerms.{NothingToDo, all_wait, one_flies, Counted}
 use Rattle.ledger.specs.Examples.{zeros}
 use Rattle.claims.proofs.Views.{stays, joins, leaves, turns, rests_free, rests_busy, View, refuses, accepts, view}
 use Rattle.claims.proofs.Owners.{Sent, owner_of}
-use Rattle.claims.proofs.Along.{Good, start_good, good-run, good-step}
+use Rattle.claims.proofs.Along.{Good, start_good, good_run, good_step}
 
 -- 1. "one that refuses everything": a refused call is one that the table refuses (`Laws.refused_by_table`), and it does not refuse this
 pub does_not_refuse_all : refusal live_max (fresh 38) (poll (zeros (total max_len)) 0) ≡ none
@@ -83,7 +83,7 @@ unfolding last_asked
 first_call_ends_nothing limit enough given c = go (ending_in (step limit (start given).ledger c).answer) refl
   where
     good : Good limit (then limit (start given) c)
-    good = good-step limit enough (start given) c (start_good limit given)
+    good = good_step limit enough (start given) c (start_good limit given)
 
     go : (o : Option Ending) → ending_in (step limit (start given).ledger c).answer ≡ o
         → ending_in (step limit (start given).ledger c).answer ≡ none
@@ -99,7 +99,7 @@ pub counts_frames : (limit : ℕ) → Enough limit → (given : ℕ) (cs : List 
     → (run limit (start given) cs).ledger.live ≡ b ++ (q ∷ a) → q.state ≡ in_flight f → Counted (run limit (start given) cs) q f
 counts_frames limit enough given cs b a q f among flying =
     let s = run limit (start given) cs in
-    let good = good-run limit enough (start given) cs (start_good limit given) in
+    let good = good_run limit enough (start given) cs (start_good limit given) in
     let its = owner_of s.past (live_after s.past) b a q (rw among at good.told.owners) in
     let sent : frames its.0.place s.past ≡ replicate f.transmissions (frame_bytes q f.seq) =
     subst (λ x. Sent q x (frames its.0.place s.past)) flying its.1.sent in

@@ -36,7 +36,7 @@ use Rattle.ledger.specs.Runs.{step, answers_to}
 use Rattle.claims.specs.Trace.{is_accepted, id_in, ending_in, first, sent_in}
 use Rattle.ledger.proofs.Cases.{by_test}
 use Rattle.ledger.proofs.States.{flies_state, acknowledged_state}
-use Rattle.claims.proofs.Lists.{take-front}
+use Rattle.claims.proofs.Lists.{take_front}
 use Rattle.ledger.proofs.Searches.{Looked, none_shows, one_shows, look}
 use Rattle.claims.proofs.PollCases.{Acted, no_response_law, goes_again, gives_up, goes_first, quiet_free, quiet_busy, acted}
 
@@ -216,8 +216,8 @@ module _ (limit : ℕ) (l : Ledger) (r : line.Received) (reply buffer : List ℕ
 -- a frame stands at the front of the output
 put_in_front : (bytes output : List ℕ) → take (length bytes) (placed 0 bytes output) ≡ bytes
 unfolding placed
-put_in_front bytes [] = take-front bytes (drop (0 + length bytes) [])
-put_in_front bytes (x ∷ xs) = take-front bytes (drop (0 + length bytes) (x ∷ xs))
+put_in_front bytes [] = take_front bytes (drop (0 + length bytes) [])
+put_in_front bytes (x ∷ xs) = take_front bytes (drop (0 + length bytes) (x ∷ xs))
 
 module _ (limit : ℕ) (l : Ledger) (output : List ℕ) (t : ℕ) where
   -- a poll, by what it does

@@ -9,7 +9,7 @@ use lib.Dec.{ltb}
 use lib.ListN.{length, drop}
 use borrow.Author.Tests.{ltb-false, ne_eqb}
 use Rattle.message.specs.Writing.{placed}
-use Rattle.message.proofs.Buffer.{length-placed, after-placed}
+use Rattle.message.proofs.Buffer.{length_placed, after_placed}
 use Rattle.command.specs.Payload.{Fields}
 use Rattle.link.specs.Frames.{first_sent}
 use Rattle.link.specs.Repeats.{none_seen}
@@ -53,7 +53,7 @@ unfolding placed
 put_by m x l same = ap (λ (rest : List ℕ). m ++ rest) same
 
 put_again : (m l : List ℕ) → 0 + length m ≤ length l → placed 0 m (placed 0 m l) ≡ placed 0 m l
-put_again m l room = put_by m (placed 0 m l) l (after-placed 0 m l room)
+put_again m l room = put_by m (placed 0 m l) l (after_placed 0 m l room)
 
 -- the IDs and the SEQ of the second request
 second_id_law : (r : ℕ) → r ≤ reserved_max → id_after r (suc r) ≡ suc (suc r)
@@ -110,7 +110,7 @@ module _ (reserved : ℕ) (store : List ℕ) (f : Fields) (bytes acknowledgement
       let other = frame_for f (suc (suc r)) bytes 1 in
       let room = frame_room f (suc (suc r)) 1 bytes frames h.short h.frames_room in
       let wide = h.frames_room in
-      let size = length-placed 0 other frames room in
+      let size = length_placed 0 other frames room in
       let k4 = (rw k3.puts at a4) reserved r0 _ _ r at.heard _ _ (suc (suc r)) 1 (some seq) f bytes k3.list k3.ledger
       h.due h.due_last h.due_over (rw size wide) (put_again other frames room) in
       record {

@@ -10,7 +10,7 @@ use lib.ListN.{length}
 use borrow.Author.Tests.{le-ltb}
 use Rattle.message.specs.Bytes.{total, max_len, data_seq}
 use Rattle.message.specs.Writing.{placed}
-use Rattle.message.proofs.Buffer.{length-placed}
+use Rattle.message.proofs.Buffer.{length_placed}
 use Rattle.message.proofs.Headers.{length_message}
 use Rattle.command.specs.Payload.{Fields, max_data, payload}
 use Rattle.command.proofs.Laws.{length_payload}
@@ -29,7 +29,7 @@ use Rattle.host_claims.specs.Claims.{Extends}
 use Rattle.client_parts.specs.Answers.{frame_for}
 use Rattle.client_parts.specs.Parts.{Asks}
 use Rattle.client_parts.proofs.Calls.{comes, with_call}
-use Rattle.client_parts.proofs.Polls.{submit-idle, poll-queued, poll-calm}
+use Rattle.client_parts.proofs.Polls.{submit_idle, poll_queued, poll_calm}
 
 -- the one buffer of a poll
 pub the_one : {x y : List ℕ} → ◌≡◌ {A = List (List ℕ)} (x ∷ []) (y ∷ []) → x ≡ y
@@ -66,15 +66,15 @@ module _ (e : Endpoint) (store : List ℕ) (f : Fields) (bytes output : List ℕ
   asks given begun calls outcomes reserved before seq id seen chain stands on short room =
       let sent = placed 0 (frame_for f id bytes seq) output in
       let k1 = comes chain stands (submit f bytes true t) (submit_result r1 s1) p1 on (submit-passes short)
-      (submit-idle reserved before seq id seen f bytes t) in
+      (submit_idle reserved before seq id seen f bytes t) in
       let c1 = with_call chain (submit f bytes true t) (submit_result r1 s1) x1 k1.answers k1.leaves in
       let k2 = comes c1 k1.next (poll output t) (poll_result r2 s2 o2) p2 (omega arith) (poll_passes output room)
-      (poll-queued reserved t seq (id_after reserved id) seen id f bytes output t) in
+      (poll_queued reserved t seq (id_after reserved id) seen id f bytes output t) in
       let c2 = with_call c1 (poll output t) (poll_result r2 s2 o2) x2 k2.answers k2.leaves in
       let put = the_one k2.leaves in
-      let size = length-placed 0 (frame_for f id bytes seq) output (frame_room f id seq bytes output short room) in
+      let size = length_placed 0 (frame_for f id bytes seq) output (frame_room f id seq bytes output short room) in
       let k3 = comes c2 k2.next (poll sent t) (poll_result r3 s3 o3) (rw put at p3) (omega arith) (poll_passes sent (rw size room))
-      (poll-calm reserved t (seq_after seq) (id_after reserved id) seen id f bytes sent t (first_sent seq t) (first_not_due seq t)) in
+      (poll_calm reserved t (seq_after seq) (id_after reserved id) seen id f bytes sent t (first_sent seq t) (first_not_due seq t)) in
       let calm = k3.answers ∙ rests_1000 t in
       record {
         named = k1.answers;

@@ -18,7 +18,7 @@ use Rattle.host_answers.specs.Promises.{Result, Promise}
 use Rattle.host_answers.specs.declared.Opened as opening
 use Rattle.host_claims.specs.Chains.{Chain}
 use Rattle.host_claims.specs.Claims.{Extends}
-use Rattle.host_claims.proofs.Laws.{never-malformed}
+use Rattle.host_claims.proofs.Laws.{never_malformed}
 use Rattle.host_claims.proofs.Refining.{steps}
 use Rattle.client_parts.specs.Parts.{told, and}
 
@@ -34,7 +34,7 @@ module _ {given : ℕ} {begun : opening.Opened} {calls : List Call} {outcomes : 
   module _ {l : Ledger} (stands : ledger_of e store ≡ l) (c : Call) (r : Result) (promised : Promise e store c r)
       (on : l.clock ≤ reading_of c) (passes : first_of (own_lines live_max l c) ≡ none) where
     sound : malformed live_max l ≡ false
-    sound = subst (λ (l : Ledger). malformed live_max l ≡ false) stands (ledger_sound e store (never-malformed chain))
+    sound = subst (λ (l : Ledger). malformed live_max l ≡ false) stands (ledger_sound e store (never_malformed chain))
 
     accepted : refusal live_max l c ≡ none
     unfolding first_of
@@ -46,7 +46,7 @@ module _ {given : ℕ} {begun : opening.Opened} {calls : List Call} {outcomes : 
 
     pub comes : {d : Done} → accepts l c ≡ d → Comes r d
     comes {d} same =
-        let does = steps e store c r (never-malformed chain) promised in
+        let does = steps e store c r (never_malformed chain) promised in
         let all = stepped ∙ same in
         record {
           answers = does.answers ∙ ap (λ (d : Done). d.answer) all;

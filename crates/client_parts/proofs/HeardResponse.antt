@@ -18,7 +18,7 @@ use Rattle.host_answers.specs.declared.Received.{Received}
 use Rattle.host_claims.specs.Claims.{Extends}
 use Rattle.client_parts.specs.Parts.{Hears}
 use Rattle.client_parts.proofs.Calls.{comes, with_call}
-use Rattle.client_parts.proofs.Receives.{receive-ack, receive-first, receive-second}
+use Rattle.client_parts.proofs.Receives.{receive_ack, receive_first, receive_second}
 
 -- the two buffers of a receive
 record TheTwo (x y x' y' : List ℕ) : Type 0 where
@@ -49,17 +49,17 @@ module _ (e : Endpoint) (store acknowledgement first second reply buffer : List 
       brief left =
       let passes = receive_passes reply buffer room more_Room in
       let k1 = comes chain stands (receive acknowledgement reply buffer t) (receive_result r1 s1 a1 b1) p1 on passes
-      (rw (← ack) at (receive-ack reserved before seq next id f bytes reply buffer t frame)) in
+      (rw (← ack) at (receive_ack reserved before seq next id f bytes reply buffer t frame)) in
       let c1 = with_call chain (receive acknowledgement reply buffer t) (receive_result r1 s1 a1 b1) x1 k1.answers k1.leaves in
       let same1 = the_two k1.leaves in
       let k2 = comes c1 k1.next (receive first reply buffer t) (receive_result r2 s2 a2 b2) (rw (same1.reply, same1.buffer) at p2)
-      (omega arith) passes (receive-first reserved t seq next id f bytes reply buffer t back s answer first second cut brief left) in
+      (omega arith) passes (receive_first reserved t seq next id f bytes reply buffer t back s answer first second cut brief left) in
       let c2 = with_call c1 (receive first reply buffer t) (receive_result r2 s2 a2 b2) (rw (same1.reply, same1.buffer) at x2)
       k2.answers k2.leaves in
       let same2 = the_two k2.leaves in
       let k3 = comes c2 k2.next (receive second reply buffer t) (receive_result r3 s3 a3 b3) (rw (same2.reply, same2.buffer) at p3)
       (omega arith) passes
-      (receive-second reserved t seq next id f bytes reply buffer t back s answer first second cut brief unreserved fits) in
+      (receive_second reserved t seq next id f bytes reply buffer t back s answer first second cut brief unreserved fits) in
       let same3 = the_two k3.leaves in
       record {
         acks = k1.answers;

@@ -13,7 +13,7 @@ use Rattle.host_claims.specs.Claims.{Extends}
 use Rattle.client_parts.specs.Parts.{GivesUp}
 use Rattle.client_parts.specs.declared.Readings.{Readings}
 use Rattle.client_parts.proofs.Calls.{comes, with_call}
-use Rattle.client_parts.proofs.Polls.{poll-calm, poll-again, poll-over}
+use Rattle.client_parts.proofs.Polls.{poll_calm, poll_again, poll_over}
 use Rattle.client_parts.proofs.AskedOnce.{the_one, poll_passes, rests_1000}
 
 -- the calls, each with its result and its contract
@@ -46,23 +46,23 @@ module _ (e : Endpoint) (store output : List ℕ) (at : Readings)
       let thrice = sent_again twice last in
       let passes = poll_passes output room in
       let k1 = comes chain stands (poll output again) (poll_result r1 s1 o1) p1 (omega arith) passes
-      (poll-again reserved before seq next seen id f bytes output again once (due_late once again (omega arith)) refl) in
+      (poll_again reserved before seq next seen id f bytes output again once (due_late once again (omega arith)) refl) in
       let same1 = k1.leaves ∙ ap (λ (o : List ℕ). o ∷ []) put in
       let c1 = with_call chain (poll output again) (poll_result r1 s1 o1) x1 k1.answers same1 in
       let k2 = comes c1 k1.next (poll output again) (poll_result r2 s2 o2) (rw (the_one same1) at p2) (omega arith) passes
-      (poll-calm reserved again seq next seen id f bytes output again twice (again_not_due once again)) in
+      (poll_calm reserved again seq next seen id f bytes output again twice (again_not_due once again)) in
       let rests = k2.answers ∙ rests_1000 again in
       let c2 = with_call c1 (poll output again) (poll_result r2 s2 o2) (rw (the_one same1) at x2) rests k2.leaves in
       let k3 = comes c2 k2.next (poll output last) (poll_result r3 s3 o3) (rw (the_one k2.leaves) at p3) (omega arith) passes
-      (poll-again reserved again seq next seen id f bytes output last twice (due_late twice last (omega arith)) refl) in
+      (poll_again reserved again seq next seen id f bytes output last twice (due_late twice last (omega arith)) refl) in
       let same3 = k3.leaves ∙ ap (λ (o : List ℕ). o ∷ []) put in
       let c3 = with_call c2 (poll output last) (poll_result r3 s3 o3) (rw (the_one k2.leaves) at x3) k3.answers same3 in
       let k4 = comes c3 k3.next (poll output last) (poll_result r4 s4 o4) (rw (the_one same3) at p4) (omega arith) passes
-      (poll-calm reserved last seq next seen id f bytes output last thrice (again_not_due twice last)) in
+      (poll_calm reserved last seq next seen id f bytes output last thrice (again_not_due twice last)) in
       let calm = k4.answers ∙ rests_1000 last in
       let c4 = with_call c3 (poll output last) (poll_result r4 s4 o4) (rw (the_one same3) at x4) calm k4.leaves in
       let k5 = comes c4 k4.next (poll output over) (poll_result r5 s5 o5) (rw (the_one k4.leaves) at p5) (omega arith) passes
-      (poll-over reserved last seq next seen id f bytes output over thrice (due_late thrice over (omega arith)) refl) in
+      (poll_over reserved last seq next seen id f bytes output over thrice (due_late thrice over (omega arith)) refl) in
       let x = rw (the_one k4.leaves) at x5 in
       record {
         second = k1.answers;

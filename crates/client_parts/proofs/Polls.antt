@@ -22,7 +22,7 @@ use Rattle.client_parts.specs.Parts.{with_live, idle, asking}
 
 module _ (reserved before seq next : ℕ) (seen : Seen) where
   -- a submit where nobody is live
-  pub submit-idle : (f : Fields) (bytes : List ℕ) (t : ℕ)
+  pub submit_idle : (f : Fields) (bytes : List ℕ) (t : ℕ)
       → accepts (idle reserved before seq next seen) (submit f bytes true t)
       ≡ record {
         answer = submitted next;
@@ -30,22 +30,22 @@ module _ (reserved before seq next : ℕ) (seen : Seen) where
         next = with_live reserved t seq (id_after reserved next) seen (asking next f bytes queued ∷ []) [];
       }
   unfolding first_free
-  submit-idle f bytes t = refl
+  submit_idle f bytes t = refl
 
   module _ (id : ℕ) (f : Fields) (bytes output : List ℕ) (t : ℕ) where
     -- a poll where one is queued
-    pub poll-queued : accepts (with_live reserved before seq next seen (asking id f bytes queued ∷ []) []) (poll output t)
+    pub poll_queued : accepts (with_live reserved before seq next seen (asking id f bytes queued ∷ []) []) (poll output t)
         ≡ record {
           answer = polled (sent (length (frame_for f id bytes seq)));
           buffers = placed 0 (frame_for f id bytes seq) output ∷ [];
           next = with_live reserved t (seq_after seq) next seen (asking id f bytes (in_flight (first_sent seq t)) ∷ []) [];
         }
     unfolding polling.act oldest
-    poll-queued = refl
+    poll_queued = refl
 
     -- polls where one is in flight: it is not due; it is due and may go again; it may not
     module _ (frame : Frame) where
-      pub poll-calm : due frame t ≡ false
+      pub poll_calm : due frame t ≡ false
           → accepts (with_live reserved before seq next seen (asking id f bytes (in_flight frame) ∷ []) []) (poll output t)
           ≡ record {
             answer = polled (quiet (some (deadline frame - t)));
@@ -53,9 +53,9 @@ module _ (reserved before seq next : ℕ) (seen : Seen) where
             next = with_live reserved t seq next seen (asking id f bytes (in_flight frame) ∷ []) [];
           }
       unfolding polling.act oldest earliest placed
-      poll-calm calm = rw calm
+      poll_calm calm = rw calm
 
-      pub poll-again : due frame t ≡ true → may_go_again frame ≡ true
+      pub poll_again : due frame t ≡ true → may_go_again frame ≡ true
           → accepts (with_live reserved before seq next seen (asking id f bytes (in_flight frame) ∷ []) []) (poll output t)
           ≡ record {
             answer = polled (sent (length (frame_for f id bytes frame.seq)));
@@ -63,9 +63,9 @@ module _ (reserved before seq next : ℕ) (seen : Seen) where
             next = with_live reserved t seq next seen (asking id f bytes (in_flight (sent_again frame t)) ∷ []) [];
           }
       unfolding polling.act oldest
-      poll-again late may = rw (late, may)
+      poll_again late may = rw (late, may)
 
-      pub poll-over : due frame t ≡ true → may_go_again frame ≡ false
+      pub poll_over : due frame t ≡ true → may_go_again frame ≡ false
           → accepts (with_live reserved before seq next seen (asking id f bytes (in_flight frame) ∷ []) []) (poll output t)
           ≡ record {
             answer = polled (ended (record { id = id; cause = no_acknowledgement }));
@@ -73,4 +73,4 @@ module _ (reserved before seq next : ℕ) (seen : Seen) where
             next = idle reserved t seq next seen;
           }
       unfolding polling.act oldest placed
-      poll-over late may = rw (late, may)
+      poll_over late may = rw (late, may)

@@ -15,7 +15,7 @@ use Rattle.line.specs.Receiving as line
 use Rattle.line.specs.Receiving.{item}
 use Rattle.line.proofs.Laws.{first_piece, last_piece}
 use Rattle.command.specs.Payload.{Fields, head_length, max_data, payload, answers}
-use Rattle.command.proofs.Laws.{length_payload, is_command_law, fields_read, rqid_read, data-read}
+use Rattle.command.proofs.Laws.{length_payload, is_command_law, fields_read, rqid_read, data_read}
 use Rattle.link.specs.Frames.{Frame}
 use Rattle.link.specs.Repeats.{none_seen, is_repeat, seen_after}
 use Rattle.ledger.specs.Parts.{in_flight, waiting, oldest}
@@ -41,7 +41,7 @@ module _ (reserved before seq next id : ℕ) (f : Fields) (bytes reply buffer : 
       ≡ record { answer = item (items.message ack s 0); payload = []; taken = 10; held = [] }
   ack-read s = rw (length_message ack s []) at (last_piece ack s [] [] (ack_message s) ack_allowed refl)
 
-  pub receive-ack : (frame : Frame)
+  pub receive_ack : (frame : Frame)
       → accepts (with_live reserved before seq next none_seen (asking id f bytes (in_flight frame) ∷ []) [])
       (receive (ack_message frame.seq) reply buffer t)
       ≡ record {
@@ -50,7 +50,7 @@ module _ (reserved before seq next id : ℕ) (f : Fields) (bytes reply buffer : 
         next = with_live reserved t seq next none_seen (asking id f bytes (waiting t) ∷ []) [];
       }
   unfolding receiving.receive onMessage oldest placed
-  receive-ack frame = rw (ack-read frame.seq, eq-eqb frame.seq frame.seq refl)
+  receive_ack frame = rw (ack-read frame.seq, eq-eqb frame.seq frame.seq refl)
 
   -- a response in two pieces
   module _ (back : Fields) (s : ℕ) (answer first second : List ℕ) (cut : first ++ second ≡ frame_for back id answer s)
@@ -59,7 +59,7 @@ module _ (reserved before seq next id : ℕ) (f : Fields) (bytes reply buffer : 
     fine = let long = length_payload back id answer in data-allowed (length (payload back id answer)) (omega arith) (omega arith)
 
     -- the first
-    pub receive-first : 0 < length second
+    pub receive_first : 0 < length second
         → accepts (with_live reserved before seq next none_seen (asking id f bytes (waiting before) ∷ []) [])
         (receive first reply buffer t)
         ≡ record {
@@ -68,7 +68,7 @@ module _ (reserved before seq next id : ℕ) (f : Fields) (bytes reply buffer : 
           next = with_live reserved t seq next none_seen (asking id f bytes (waiting before) ∷ []) first;
         }
     unfolding receiving.receive placed
-    receive-first left = rw (first_piece data_seq s (payload back id answer) first second fine cut left)
+    receive_first left = rw (first_piece data_seq s (payload back id answer) first second fine cut left)
 
     -- the second
     second-read : line.receive first second
@@ -80,7 +80,7 @@ module _ (reserved before seq next id : ℕ) (f : Fields) (bytes reply buffer : 
         }
     second-read = rw (length_payload back id answer) at (last_piece data_seq s (payload back id answer) first second fine cut)
 
-    pub receive-second : reserved < id → answers f back ≡ true
+    pub receive_second : reserved < id → answers f back ≡ true
         → accepts (with_live reserved before seq next none_seen (asking id f bytes (waiting before) ∷ []) first)
         (receive second reply buffer t)
         ≡ record {
@@ -89,13 +89,13 @@ module _ (reserved before seq next id : ℕ) (f : Fields) (bytes reply buffer : 
           next = idle reserved t seq next (some s);
         }
     unfolding receiving.receive onMessage onData matches oldest is_repeat seen_after
-    receive-second unreserved fits =
+    receive_second unreserved fits =
         rw (
           second-read,
           is_command_law back id answer,
           fields_read back id answer,
           rqid_read back id answer,
-          data-read back id answer,
+          data_read back id answer,
           lt-leb id reserved unreserved,
           le-leb 1 id (omega arith),
           eq-eqb id id refl,

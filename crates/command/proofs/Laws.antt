@@ -33,8 +33,8 @@ fields_read = payloads.fields_read
 pub rqid_read : (f : Fields) (i : ℕ) (d : List ℕ) → rqid_in (payload f i d) ≡ i
 rqid_read = payloads.rqid_read
 
-pub data-read : (f : Fields) (i : ℕ) (d : List ℕ) → data_in (payload f i d) ≡ d
-data-read = payloads.data-read
+pub data_read : (f : Fields) (i : ℕ) (d : List ℕ) → data_in (payload f i d) ≡ d
+data_read = payloads.data_read
 
 pub command_read : (f : Fields) (i : ℕ) (d : List ℕ) → command_in (payload f i d) ≡ command f i
 command_read = payloads.command_read

@@ -12,26 +12,26 @@ swapped f = record { tc = f.tc; tid = f.sid; sid = f.tid; iid = f.iid; cid = f.c
 
 -- each test alone refuses
 module _ (f g : Fields) where
-  pub other-tc : (f.tc ≡ g.tc → ⊥) → answers f g ≡ false
+  pub other_tc : (f.tc ≡ g.tc → ⊥) → answers f g ≡ false
   unfolding answers
-  other-tc h = rw (ne_eqb f.tc g.tc h)
+  other_tc h = rw (ne_eqb f.tc g.tc h)
 
-  pub other-cid : (f.cid ≡ g.cid → ⊥) → answers f g ≡ false
+  pub other_cid : (f.cid ≡ g.cid → ⊥) → answers f g ≡ false
   unfolding answers
-  other-cid h = simp (ne_eqb f.cid g.cid h, and-false)
+  other_cid h = simp (ne_eqb f.cid g.cid h, and-false)
 
-  pub other-iid : (f.iid ≡ g.iid → ⊥) → answers f g ≡ false
+  pub other_iid : (f.iid ≡ g.iid → ⊥) → answers f g ≡ false
   unfolding answers
-  other-iid h = simp (ne_eqb f.iid g.iid h, and-false)
+  other_iid h = simp (ne_eqb f.iid g.iid h, and-false)
 
-  pub other-tid : (f.tid ≡ g.sid → ⊥) → answers f g ≡ false
+  pub other_tid : (f.tid ≡ g.sid → ⊥) → answers f g ≡ false
   unfolding answers
-  other-tid h = simp (ne_eqb f.tid g.sid h, and-false)
+  other_tid h = simp (ne_eqb f.tid g.sid h, and-false)
 
   -- and the last decides where the others passed
-  pub last-test : f.tc ≡ g.tc → f.cid ≡ g.cid → f.iid ≡ g.iid → f.tid ≡ g.sid → answers f g ≡ eqb f.sid g.tid
+  pub last_test : f.tc ≡ g.tc → f.cid ≡ g.cid → f.iid ≡ g.iid → f.tid ≡ g.sid → answers f g ≡ eqb f.sid g.tid
   unfolding answers
-  last-test tc cid iid tid =
+  last_test tc cid iid tid =
       rw (
         eq-eqb f.tc g.tc tc,
         eq-eqb f.cid g.cid cid,
@@ -40,7 +40,7 @@ module _ (f g : Fields) where
       )
 
 pub swapped_answers : (f : Fields) → answers f (swapped f) ≡ true
-swapped_answers f = rw (last-test f (swapped f) refl refl refl refl) (eq-eqb f.sid f.sid refl)
+swapped_answers f = rw (last_test f (swapped f) refl refl refl refl) (eq-eqb f.sid f.sid refl)
 
 pub only_swapped : (f g : Fields) → answers f g ≡ true → g ≡ swapped f
 unfolding answers

@@ -8,7 +8,7 @@ use lib.Dec.{eqb, leb}
 use lib.ListN.{length, get_or, take, drop}
 use lib.Seq.{drop-cons, take_at}
 use borrow.Author.Tests.{le-leb, leb-true, eqb-true}
-use Rattle.message.proofs.Buffer.{after-placed}
+use Rattle.message.proofs.Buffer.{after_placed}
 use Rattle.message.proofs.Headers.{both}
 use Rattle.message.proofs.WrittenRead.{le16_from}
 use Rattle.message.specs.Bytes.{le16}
@@ -34,9 +34,9 @@ module _ (f : Fields) (i : ℕ) (d : List ℕ) where
   unfolding payload le16
   rqid_read = omega arith
 
-  pub data-read : data_in (payload f i d) ≡ d
+  pub data_read : data_in (payload f i d) ≡ d
   unfolding payload le16
-  data-read = refl
+  data_read = refl
 
   pub command_read : command_in (payload f i d) ≡ command f i
   unfolding command_in
@@ -53,7 +53,7 @@ pub written_rest : {n i : ℕ} {f : Fields} {d entry exit : List ℕ} → head_l
     → drop n exit ≡ drop n entry
 written_rest {n} {i} {f} {d} {entry} {exit} room wrote =
     let long : n ≡ 0 + length (payload f i d) = omega (arith, length_payload f i d, wrote.answers) in
-    rw (wrote.leaves, long) (after-placed 0 (payload f i d) entry (omega (arith, length_payload f i d)))
+    rw (wrote.leaves, long) (after_placed 0 (payload f i d) entry (omega (arith, length_payload f i d)))
 
 -- eight bytes in front of the rest
 eight : (xs : List ℕ) → head_length ≤ length xs

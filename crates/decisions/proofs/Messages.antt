@@ -25,14 +25,14 @@ use Rattle.decisions_data.proofs.Commands.{event, answering, on_command}
 
 -- DATA_SEQ
 module _ (l : Ledger) (clock seq : ℕ) (payload : List ℕ) (seen : Seen) (last : l.seen ≡ seen_of seen) where
-  pub sequenced-repeat : is_repeat (seen_of seen) seq ≡ true → {v : Verdict} → Only v word.Repeat seen
+  pub sequenced_repeat : is_repeat (seen_of seen) seq ≡ true → {v : Verdict} → Only v word.Repeat seen
       → onSequenced l clock seq payload ≡ act_of v (ack_message seq) payload l.live
-  sequenced-repeat h o = rw (last, h) (only_act o (ack_message seq) payload l.live)
+  sequenced_repeat h o = rw (last, h) (only_act o (ack_message seq) payload l.live)
 
-  pub sequenced-new : is_repeat (seen_of seen) seq ≡ false → (next : Seen) → seen_of next ≡ seen_after (seen_of seen) seq → (v : Verdict)
+  pub sequenced_new : is_repeat (seen_of seen) seq ≡ false → (next : Seen) → seen_of next ≡ seen_after (seen_of seen) seq → (v : Verdict)
       → remembering (seen_of next) (onData l clock payload) ≡ act_of v [] payload l.live
       → onSequenced l clock seq payload ≡ act_of v (ack_message seq) payload l.live
-  sequenced-new h next is-next v is =
+  sequenced_new h next is-next v is =
       let now-seen : seen_after l.seen seq ≡ seen_of next = ap (λ (s : repeats.Seen). seen_after s seq) last ∙ sym is-next in
       rw (ap (λ (s : repeats.Seen). is_repeat s seq) last ∙ h, now-seen) (ap (replying (ack_message seq)) is)
 
@@ -64,21 +64,21 @@ module _ (l : Ledger) (clock type seq : ℕ) (payload : List ℕ) (v : Verdict) 
   abbrev judged : Type 0
   judged = onMessage l clock type seq payload ≡ act_of v (reply_to type seq) payload l.live
 
-  pub message-ack : type ≡ ack → onAck l clock (oldest (λ q. acknowledged_in seq q.state) l.live) ≡ act_of v [] payload l.live → judged
+  pub message_ack : type ≡ ack → onAck l clock (oldest (λ q. acknowledged_in seq q.state) l.live) ≡ act_of v [] payload l.live → judged
   unfolding onMessage
-  message-ack is h = rw is h
+  message_ack is h = rw is h
 
-  pub message-nak : type ≡ nak → onNak l clock (oldest flies l.live) ≡ act_of v [] payload l.live → judged
+  pub message_nak : type ≡ nak → onNak l clock (oldest flies l.live) ≡ act_of v [] payload l.live → judged
   unfolding onMessage
-  message-nak is h = rw is h
+  message_nak is h = rw is h
 
-  pub message-sequenced : type ≡ data_seq → onSequenced l clock seq payload ≡ act_of v (ack_message seq) payload l.live → judged
+  pub message_sequenced : type ≡ data_seq → onSequenced l clock seq payload ≡ act_of v (ack_message seq) payload l.live → judged
   unfolding onMessage
-  message-sequenced is h = rw is h
+  message_sequenced is h = rw is h
 
-  pub message-other : (type ≡ ack → ⊥) → (type ≡ nak → ⊥) → (type ≡ data_seq → ⊥)
+  pub message_other : (type ≡ ack → ⊥) → (type ≡ nak → ⊥) → (type ≡ data_seq → ⊥)
       → remembering l.seen (onData l clock payload) ≡ act_of v [] payload l.live → judged
   unfolding onMessage
-  message-other no-ack no-nak no-seq h =
+  message_other no-ack no-nak no-seq h =
       rw (ne_eqb type ack no-ack, ne_eqb type nak no-nak, ne_eqb type data_seq no-seq)
       (ap (λ (s : repeats.Seen). remembering s (onData l clock payload)) (seen-of-data l clock payload) ∙ h)

@@ -19,7 +19,7 @@ use Rattle.endpoint.specs.Places.{at}
 use Rattle.endpoint.specs.declared.Requests.{Requests}
 use Rattle.endpoint.specs.declared.State.TheVariants.{InFlight, Waiting}
 use Rattle.live_search.specs.declared.Query.TheVariants as query
-use Rattle.live_search.proofs.Searched.{Searched, Finds, row_at, none_found, one_found, found-row, flying_state}
+use Rattle.live_search.proofs.Searched.{Searched, Finds, row_at, none_found, one_found, found_row, flying_state}
 use Rattle.live_changes.specs.declared.Change.TheVariants as change
 use Rattle.decisions_verdict.specs.Verdicts.{act_of}
 use Rattle.decisions_verdict.specs.declared.Verdict.{Verdict}
@@ -32,8 +32,8 @@ module _ (l : Ledger) (clock : ℕ) (store payload : List ℕ) (live : Requests)
     abbrev acknowledged : Search link.Frame
     acknowledged = oldest (λ q. acknowledged_in seq.0 q.state) l.live
 
-    pub ack-stray : live.count ≤ row → {v : Verdict} → Only v word.Stray seen → onAck l clock acknowledged ≡ act_of v [] payload l.live
-    ack-stray none-there o =
+    pub ack_stray : live.count ≤ row → {v : Verdict} → Only v word.Stray seen → onAck l clock acknowledged ≡ act_of v [] payload l.live
+    ack_stray none-there o =
         rw (none_found (λ q. acknowledged_in seq.0 q.state) s (λ them. refl) l.live store same none-there, last)
         (only_act o [] payload l.live)
 
@@ -44,38 +44,38 @@ module _ (l : Ledger) (clock : ℕ) (store payload : List ℕ) (live : Requests)
       is-wanted : (at row l.live).wanted ≡ (row_at live row).wanted
       is-wanted =
           ap (λ (q : ledger.Request). q.wanted)
-          (found-row (λ q. acknowledged_in seq.0 q.state) s (λ them. refl) l.live store same less)
+          (found_row (λ q. acknowledged_in seq.0 q.state) s (λ them. refl) l.live store same less)
 
       pub ack_waits : (row_at live row).wanted ≡ true
           → onAck l clock acknowledged
           ≡ act_of (record { word = word.Nothing; change = change.Turn row (Waiting clock); seen = seen }) [] payload l.live
       ack_waits wanted = rw (there.found, is-wanted, wanted, last)
 
-      pub ack-ends : (row_at live row).wanted ≡ false
+      pub ack_ends : (row_at live row).wanted ≡ false
           → onAck l clock acknowledged
           ≡ act_of (record { word = word.Nothing; change = change.End row Acknowledged; seen = seen }) [] payload l.live
-      ack-ends unwanted = rw (there.found, is-wanted, unwanted, last)
+      ack_ends unwanted = rw (there.found, is-wanted, unwanted, last)
 
   -- NAK
   module _ (s : Searched live query.Flying row) where
-    pub nak-stray : live.count ≤ row → {v : Verdict} → Only v word.Stray seen
+    pub nak_stray : live.count ≤ row → {v : Verdict} → Only v word.Stray seen
         → onNak l clock (oldest flies l.live) ≡ act_of v [] payload l.live
-    nak-stray none-there o =
+    nak_stray none-there o =
         rw (none_found flies s (λ them. refl) l.live store same none-there, last) (only_act o [] payload l.live)
 
     module _ (less : row < live.count) where
       abbrev flight : Finds flies l.live row
       flight = one_found flies s (λ them. refl) l.live store same less
 
-      pub flies-there : state_of (row_at live row).state ≡ in_flight flight.what
-      flies-there =
-          sym (ap (λ (q : ledger.Request). q.state) (found-row flies s (λ them. refl) l.live store same less))
+      pub flies_there : state_of (row_at live row).state ≡ in_flight flight.what
+      flies_there =
+          sym (ap (λ (q : ledger.Request). q.state) (found_row flies s (λ them. refl) l.live store same less))
           ∙ flying_state (at row l.live).state flight.shown
 
-      pub nak-marks : {g : Frame} → (row_at live row).state ≡ InFlight g → (next : Frame) → frame_of next ≡ with_mark (frame_of g)
+      pub nak_marks : {g : Frame} → (row_at live row).state ≡ InFlight g → (next : Frame) → frame_of next ≡ with_mark (frame_of g)
           → onNak l clock (oldest flies l.live)
           ≡ act_of (record { word = word.Nothing; change = change.Turn row (InFlight next); seen = seen }) [] payload l.live
-      nak-marks {g} is next is-next =
-          let both = sym (ap state_of is) ∙ flies-there in
+      nak_marks {g} is next is-next =
+          let both = sym (ap state_of is) ∙ flies_there in
           let frame : flight.what ≡ frame_of g = cc in
           rw (flight.found, frame, last, is-next)

@@ -49,13 +49,13 @@ module _ (l : Ledger) (clock : ℕ) (store payload : List ℕ) (live : Requests)
     abbrev asks : Asks (matched (command_of it)) (query.Answered it.fields it.id)
     asks = answered_first (command_of it) it.fields it.id refl refl
 
-    pub response-unmatched : live.count ≤ row → {v : Verdict} → Only v (word.Unmatched it) seen → response ≡ act_of v [] payload l.live
-    response-unmatched none-there o =
+    pub response_unmatched : live.count ≤ row → {v : Verdict} → Only v (word.Unmatched it) seen → response ≡ act_of v [] payload l.live
+    response_unmatched none-there o =
         rw (none_found (matched (command_of it)) s asks l.live store same none-there) (only_act o [] payload l.live)
 
-    pub response-ends : row < live.count
+    pub response_ends : row < live.count
         → response ≡ act_of (record { word = word.Response it; change = change.End row Response; seen = seen }) [] payload l.live
-    response-ends less = rw (one_found (matched (command_of it)) s asks l.live store same less).found
+    response_ends less = rw (one_found (matched (command_of it)) s asks l.live store same less).found
 
 -- data of either kind
 not_command_law : (payload : List ℕ) (b : Bool) → command.not_command ≡ if b (command.command (fields_in payload) (rqid_in payload)) command.not_command
@@ -74,10 +74,10 @@ module _ (payload : List ℕ) {r : Reading} (read : command.command_of r ≡ com
   unfolding command.command_in
   read_none is = not_command_law payload (is_command payload) (sym (ap command.command_of is) ∙ read)
 
-  pub read-command : (it : Command) → r ≡ reading.Command it.fields it.id → it.len ≡ length (data_in payload)
+  pub read_command : (it : Command) → r ≡ reading.Command it.fields it.id → it.len ≡ length (data_in payload)
       → (is_command payload ≡ true) × (command_of it ≡ command_in payload)
   unfolding command.command_in
-  read-command it is long =
+  read_command it is long =
       let told = is_command_law payload it.fields it.id (is_command payload) (sym (ap command.command_of is) ∙ read) in
       (told.0, rw (told.1, told.2, long))
 
@@ -95,20 +95,20 @@ module _ (l : Ledger) (clock : ℕ) (payload : List ℕ) (seen : Seen) where
   abbrev does : receiving.Act
   does = remembering (seen_of seen) (onData l clock payload)
 
-  pub data-none : is_command payload ≡ false → {v : Verdict} → Only v word.NotCommand seen → does ≡ act_of v [] payload l.live
+  pub data_none : is_command payload ≡ false → {v : Verdict} → Only v word.NotCommand seen → does ≡ act_of v [] payload l.live
   unfolding onData
-  data-none h o = rw h (only_act o [] payload l.live)
+  data_none h o = rw h (only_act o [] payload l.live)
 
   module _ {it : Command} (told : (is_command payload ≡ true) × (command_of it ≡ command_in payload)) {reserved : ℕ} (r : l.reserved ≡ reserved) where
     as-told : onData l clock payload ≡ on_command l clock payload (command_of it)
     as-told = on_command_law l clock payload told.0 ∙ ap (on_command l clock payload) (sym told.1)
 
-    pub data-event : (leb 1 it.id.0 && leb it.id.0 reserved) ≡ true → {v : Verdict} → Only v (word.Event it) seen
+    pub data_event : (leb 1 it.id.0 && leb it.id.0 reserved) ≡ true → {v : Verdict} → Only v (word.Event it) seen
         → does ≡ act_of v [] payload l.live
-    data-event h o = ap (remembering (seen_of seen)) as-told ∙ rw (r, h) (only_act o [] payload l.live)
+    data_event h o = ap (remembering (seen_of seen)) as-told ∙ rw (r, h) (only_act o [] payload l.live)
 
-    pub data-other : (leb 1 it.id.0 && leb it.id.0 reserved) ≡ false → (v : Verdict)
+    pub data_other : (leb 1 it.id.0 && leb it.id.0 reserved) ≡ false → (v : Verdict)
         → remembering (seen_of seen) (onResponse l clock (command_of it) (data_in payload) (answering l (command_of it)))
         ≡ act_of v [] payload l.live
         → does ≡ act_of v [] payload l.live
-    data-other h v is = ap (remembering (seen_of seen)) as-told ∙ rw (r, h) is
+    data_other h v is = ap (remembering (seen_of seen)) as-told ∙ rw (r, h) is

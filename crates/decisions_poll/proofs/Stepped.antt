@@ -20,7 +20,7 @@ use Rattle.endpoint.specs.declared.State.TheVariants.{InFlight}
 use Rattle.endpoint.specs.declared.Requests.{Requests}
 use Rattle.live_search.specs.declared.Query.TheVariants.{Overdue, Flying, Queued}
 use Rattle.link.specs.declared.frame.Frame.{Frame}
-use Rattle.live_search.proofs.Searched.{Searched, Finds, row_at, none_found, one_found, found-row, flying_state}
+use Rattle.live_search.proofs.Searched.{Searched, Finds, row_at, none_found, one_found, found_row, flying_state}
 use Rattle.decisions_poll.specs.Steps.{sent_from, step_of, Reaches, Steps, frame_act}
 use Rattle.decisions_poll.specs.declared.Step.{Step}
 use Rattle.decisions_poll.specs.declared.Step.TheVariants.{End, Again, First, Quiet}
@@ -62,14 +62,14 @@ module _ (l : Ledger) (clock row : ℕ) {state : State} {g : Frame} (is : state 
       → step_of (Again row again) l clock ≡ frame_act l clock f row
   goes_again h more again is-again = ap (λ (it : link.Frame). sent_from l clock it l.next_seq row) is-again ∙ rw (same-frame, h, more)
 
-  pub given-up : due (frame_of g) clock ≡ true → may_go_again (frame_of g) ≡ false
+  pub given_up : due (frame_of g) clock ≡ true → may_go_again (frame_of g) ≡ false
       → step_of (End row NoAcknowledgement) l clock ≡ frame_act l clock f row
-  given-up h no_more = rw (same-frame, h, no_more)
+  given_up h no_more = rw (same-frame, h, no_more)
 
 -- the same for the rows that were searched
 module _ {live : Requests} {clock row : ℕ} (overdue : Searched live (Overdue clock) row) where
-  pub steps-overdue : row < live.count → Steps (End row NoResponse) live clock
-  steps-overdue less = record {
+  pub steps_overdue : row < live.count → Steps (End row NoResponse) live clock
+  steps_overdue less = record {
     acts = λ l store same.
         overdue-acts l clock row (one_found (λ q. overdue_in clock q.state) overdue (λ them. refl) l.live store same less);
     reaches = less;
@@ -79,14 +79,14 @@ module _ {live : Requests} {clock row : ℕ} (overdue : Searched live (Overdue c
     no-wait : (l : Ledger) (store : List ℕ) → l.live ≡ live_of live store → oldest (λ q. overdue_in clock q.state) l.live ≡ nobody
     no-wait l store same = none_found (λ q. overdue_in clock q.state) overdue (λ them. refl) l.live store same none-overdue
 
-    pub steps-frame : row2 < live.count → (s : Step)
+    pub steps_frame : row2 < live.count → (s : Step)
         → ((l : Ledger) (f : link.Frame) → state_of (row_at live row2).state ≡ in_flight f → step_of s l clock ≡ frame_act l clock f row2)
         × ((n : ℕ) → row2 < n → Reaches s n)
         → Steps s live clock
-    steps-frame less s frame = record {
+    steps_frame less s frame = record {
       acts = λ l store same.
           let o = one_found flies flying (λ them. refl) l.live store same less in
-          let there = ap (λ (q : ledger.Request). q.state) (found-row flies flying (λ them. refl) l.live store same less) in
+          let there = ap (λ (q : ledger.Request). q.state) (found_row flies flying (λ them. refl) l.live store same less) in
           frame-acts l clock row2 (no-wait l store same) o
           ∙ sym (frame.0 l o.what (sym there ∙ flying_state (at row2 l.live).state o.shown));
       reaches = frame.1 live.count less;
@@ -104,8 +104,8 @@ module _ {live : Requests} {clock row : ℕ} (overdue : Searched live (Overdue c
         reaches = less;
       }
 
-      pub steps-quiet : live.count ≤ row3 → Steps Quiet live clock
-      steps-quiet none-queued = record {
+      pub steps_quiet : live.count ≤ row3 → Steps Quiet live clock
+      steps_quiet none-queued = record {
         acts = λ l store same.
             quiet-acts l clock row3 (no-wait l store same) (no-flight l store same)
             (none_found (λ q. queued_in q.state) queued (λ them. refl) l.live store same none-queued);

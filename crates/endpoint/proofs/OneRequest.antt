@@ -48,15 +48,15 @@ waiting_bad clock wanted s since same = ap (λ (s : State). bad_state clock want
 
 -- a request, by the first test that it fails
 module _ (r clock : ℕ) (q : Request) where
-  pub bad-outside : is_outside r q.id.0 ≡ true → bad_request r clock q ≡ true
+  pub bad_outside : is_outside r q.id.0 ≡ true → bad_request r clock q ≡ true
   unfolding bad_request
-  bad-outside out = rw out refl
+  bad_outside out = rw out refl
 
-  pub bad-long : is_outside r q.id.0 ≡ false → ltb max_data q.len ≡ true → bad_request r clock q ≡ true
+  pub bad_long : is_outside r q.id.0 ≡ false → ltb max_data q.len ≡ true → bad_request r clock q ≡ true
   unfolding bad_request
-  bad-long out long = rw (out, long) refl
+  bad_long out long = rw (out, long) refl
 
-  pub bad-left : is_outside r q.id.0 ≡ false → ltb max_data q.len ≡ false
+  pub bad_left : is_outside r q.id.0 ≡ false → ltb max_data q.len ≡ false
       → bad_request r clock q ≡ bad_state clock q.wanted (state_of q.state)
   unfolding bad_request
-  bad-left out long = rw (out, long) refl
+  bad_left out long = rw (out, long) refl

@@ -54,8 +54,8 @@ module _ (live : Requests) (three : length live.rows ≡ live_max) (few : live.c
   within : live.count ≤ length live.rows
   within = omega arith
 
-  pub length-rows : length (rows_of live) ≡ live.count
-  length-rows = length_first live.rows live.count within
+  pub length_rows : length (rows_of live) ≡ live.count
+  length_rows = length_first live.rows live.count within
 
   pub rows_at : (i : ℕ) → i < live.count → get_or (rows_of live) i blank_row ≡ get_or live.rows i blank_row
   rows_at i less = first_at live.rows live.count i less
@@ -67,5 +67,5 @@ module _ (live : Requests) (three : length live.rows ≡ live_max) (few : live.c
   rows_end i less = first_end live.rows live.count i within less
 
   -- and in the terms of a loop
-  pub rows-turn : (i : ℕ) → i < live.count → rest live i ≡ row live i ∷ rest live (i + 1)
-  rows-turn i less = rows_next i less ∙ rw (add-one i)
+  pub rows_turn : (i : ℕ) → i < live.count → rest live i ≡ row live i ∷ rest live (i + 1)
+  rows_turn i less = rows_next i less ∙ rw (add-one i)

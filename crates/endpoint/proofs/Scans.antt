@@ -13,50 +13,50 @@ use Rattle.endpoint.specs.Endpoint.{state_of, rows_of}
 use Rattle.endpoint.specs.Malformed.{bare_of}
 use Rattle.endpoint.specs.declared.Request.{Request}
 use Rattle.endpoint.specs.declared.Requests.{Requests}
-use Rattle.endpoint.proofs.Rows.{blank_row, rest, row, rows-turn, rows_end}
+use Rattle.endpoint.proofs.Rows.{blank_row, rest, row, rows_turn, rows_end}
 
 module _ (live : Requests) (three : length live.rows ≡ live_max) (few : live.count ≤ live_max) (i : ℕ) where
   next : i < live.count → rest live i ≡ row live i ∷ rest live (i + 1)
-  next = rows-turn live three few i
+  next = rows_turn live three few i
 
   -- whether an ID is live
-  pub live-next : (id : ℕ) → i < live.count
+  pub live_next : (id : ℕ) → i < live.count
       → is_live id (bare_of (drop i (rows_of live))) ≡ (eqb (get_or live.rows i blank_row).id.0 id || is_live id (bare_of (drop (i + 1) (rows_of live))))
   unfolding is_live
-  live-next id less = ap (λ (l : List Request). is_live id (bare_of l)) (next less)
+  live_next id less = ap (λ (l : List Request). is_live id (bare_of l)) (next less)
 
-  pub live-none : (id : ℕ) → live.count ≤ i → is_live id (bare_of (drop i (rows_of live))) ≡ false
+  pub live_none : (id : ℕ) → live.count ≤ i → is_live id (bare_of (drop i (rows_of live))) ≡ false
   unfolding is_live
-  live-none id less = ap (λ (l : List Request). is_live id (bare_of l)) (rows_end live three few i less)
+  live_none id less = ap (λ (l : List Request). is_live id (bare_of l)) (rows_end live three few i less)
 
   -- how many are in flight
-  pub flights-next : i < live.count
+  pub flights_next : i < live.count
       → flights (bare_of (drop i (rows_of live))) ≡ flies_once (state_of (get_or live.rows i blank_row).state) + flights (bare_of (drop (i + 1) (rows_of live)))
   unfolding flights
-  flights-next less = ap (λ (l : List Request). flights (bare_of l)) (next less)
+  flights_next less = ap (λ (l : List Request). flights (bare_of l)) (next less)
 
-  pub flights-none : live.count ≤ i → flights (bare_of (drop i (rows_of live))) ≡ 0
+  pub flights_none : live.count ≤ i → flights (bare_of (drop i (rows_of live))) ≡ 0
   unfolding flights
-  flights-none less = ap (λ (l : List Request). flights (bare_of l)) (rows_end live three few i less)
+  flights_none less = ap (λ (l : List Request). flights (bare_of l)) (rows_end live three few i less)
 
   -- whether some request is bad
   module _ (reserved clock : ℕ) where
-    pub bad-next : i < live.count
+    pub bad_next : i < live.count
         → some_bad reserved clock (drop i (rows_of live))
         ≡ (bad_request reserved clock (get_or live.rows i blank_row)
         || (is_live (get_or live.rows i blank_row).id.0 (bare_of (drop (i + 1) (rows_of live))) || some_bad reserved clock (drop (i + 1) (rows_of live))))
     unfolding some_bad
-    bad-next less = ap (λ (l : List Request). some_bad reserved clock l) (next less)
+    bad_next less = ap (λ (l : List Request). some_bad reserved clock l) (next less)
 
-    pub bad-here : i < live.count → bad_request reserved clock (get_or live.rows i blank_row) ≡ true
+    pub bad_here : i < live.count → bad_request reserved clock (get_or live.rows i blank_row) ≡ true
         → some_bad reserved clock (drop i (rows_of live)) ≡ true
-    bad-here less bad = bad-next less ∙ rw bad refl
+    bad_here less bad = bad_next less ∙ rw bad refl
 
-    pub bad-rest : i < live.count → bad_request reserved clock (get_or live.rows i blank_row) ≡ false
+    pub bad_rest : i < live.count → bad_request reserved clock (get_or live.rows i blank_row) ≡ false
         → (again : Bool) → again ≡ is_live (get_or live.rows i blank_row).id.0 (bare_of (drop (i + 1) (rows_of live)))
         → some_bad reserved clock (drop i (rows_of live)) ≡ (again || some_bad reserved clock (drop (i + 1) (rows_of live)))
-    bad-rest less good again e = bad-next less ∙ rw (good, e) refl
+    bad_rest less good again e = bad_next less ∙ rw (good, e) refl
 
-    pub bad-none : live.count ≤ i → some_bad reserved clock (drop i (rows_of live)) ≡ false
+    pub bad_none : live.count ≤ i → some_bad reserved clock (drop i (rows_of live)) ≡ false
     unfolding some_bad
-    bad-none less = ap (λ (l : List Request). some_bad reserved clock l) (rows_end live three few i less)
+    bad_none less = ap (λ (l : List Request). some_bad reserved clock l) (rows_end live three few i less)

@@ -8,7 +8,7 @@ use lib.ListN.{length, take, drop}
 use lib.Seq.{take_at}
 use borrow.Author.Tests.{le-ltb, le-leb}
 use Rattle.message.proofs.Accepted.{says_length}
-use Rattle.message.proofs.Buffer.{lent_from, given_back, lent_front, length-placed, from-placed, beyond-placed, front}
+use Rattle.message.proofs.Buffer.{lent_from, given_back, lent_front, length_placed, from_placed, beyond_placed, front}
 use Rattle.message.proofs.Headers.{length_message}
 use Rattle.message.specs.Bytes.{message, header_length, payload_at, total, max_len, ack, nak, data_seq, allowed, writable}
 use Rattle.message.specs.Promises.{Wrote}
@@ -49,7 +49,7 @@ put_message r n t q p entry exit sound room count wrote = record {
 -- bytes put over others, and k behind those
 over : (a k : ℕ) (m n l : List ℕ) → a + length n ≤ length l → length m ≡ a + length n + k → placed 0 m (placed a n l) ≡ placed 0 m l
 over a k m n l fits size =
-    let rest : drop (length m) (placed a n l) ≡ drop (length m) l = rw size (beyond-placed a n l fits k) in
+    let rest : drop (length m) (placed a n l) ≡ drop (length m) l = rw size (beyond_placed a n l fits k) in
     sym (front m (placed a n l)) ∙ ap (m ++◌) rest ∙ front m l
 
 -- the frame of a command: its payload is put behind the room for the header, then the header and the checksum around it
@@ -64,9 +64,9 @@ put_command r n len q id f bytes entry x exit short room inner outer count =
     let size : len ≡ length p = inner.answers ∙ sym long in
     let mid : given_back header_length entry x ≡ placed header_length p entry =
     rw inner.leaves (lent_front header_length p entry (omega arith)) in
-    let same : length (placed header_length p entry) ≡ length entry = length-placed header_length p entry (omega arith) in
+    let same : length (placed header_length p entry) ≡ length entry = length_placed header_length p entry (omega arith) in
     let there : payload_at 0 (length p) (placed header_length p entry) ≡ p =
-    ap (take (length p)) (from-placed header_length p entry (omega arith))
+    ap (take (length p)) (from_placed header_length p entry (omega arith))
     ∙ take_at p (drop (header_length + length p) entry) (length p) refl in
     let wrote : Wrote r 0 data_seq q (length p) p (placed header_length p entry) exit = rw (mid, size, there) at outer in
     let sound = data-writable (length p) q (omega arith) (omega arith) in

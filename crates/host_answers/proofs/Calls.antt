@@ -41,11 +41,11 @@ refuses e store c o n table refused = by_table e store c o table refused
 
 -- what a check of the table says of a call
 module _ (r : Check) {table : Option ℕ} (said : check_of r ≡ table) where
-  pub refused-by : {n : ℕ} → r ≡ Refused n → table ≡ some n
-  refused-by {n} h = let refused : check_of r ≡ some n = rw h in sym said ∙ refused
+  pub refused_by : {n : ℕ} → r ≡ Refused n → table ≡ some n
+  refused_by {n} h = let refused : check_of r ≡ some n = rw h in sym said ∙ refused
 
-  pub accepted-by : r ≡ Accepted → table ≡ none
-  accepted-by h = let accepted : check_of r ≡ none = rw h in sym said ∙ accepted
+  pub accepted_by : r ≡ Accepted → table ≡ none
+  accepted_by h = let accepted : check_of r ≡ none = rw h in sym said ∙ accepted
 
 -- an accepted call's endpoint
 pub sound_of : (e : Endpoint) (clock : ℕ) (own : List Line) → first_of (with_endpoint e clock own) ≡ none → Sound e clock

@@ -33,18 +33,18 @@ module _ (x s : List ℕ) (size : length x ≡ held_max) where
   front-lent : take held_max (x ++ drop held_max s) ≡ x
   front-lent = take_at x (drop held_max s) held_max size
 
-  pub rest-lent : drop held_max (x ++ drop held_max s) ≡ drop held_max s
-  rest-lent = drop_at x (drop held_max s) held_max size
+  pub rest_lent : drop held_max (x ++ drop held_max s) ≡ drop held_max s
+  rest_lent = drop_at x (drop held_max s) held_max size
 
-  pub first-lent : (n : ℕ) → n ≤ held_max → take n (x ++ drop held_max s) ≡ take n x
-  first-lent n few = take-append-le n x (drop held_max s) (omega arith)
+  pub first_lent : (n : ℕ) → n ≤ held_max → take n (x ++ drop held_max s) ≡ take n x
+  first_lent n few = take-append-le n x (drop held_max s) (omega arith)
 
   -- the line's decision on the front
-  pub decided-in : (d : Decision) (held : ℕ) (new : List ℕ) → held ≤ held_max → Decides d (take held (take held_max s)) new x
+  pub decided_in : (d : Decision) (held : ℕ) (new : List ℕ) → held ≤ held_max → Decides d (take held (take held_max s)) new x
       → DecidesIn d held new s (x ++ drop held_max s)
-  decided-in d held new few decides = record {
+  decided_in d held new few decides = record {
     decides = rw (front-lent, ← first_of_front held s few) decides;
-    rooms = rest-lent;
+    rooms = rest_lent;
   }
 
 -- stores that agree behind the front have the same rooms, and so the same live requests

@@ -15,7 +15,7 @@ use Rattle.record_audit.specs.Records.{ids_of}
 use Rattle.record_audit.proofs.Laws.{sound_endpoint}
 use Rattle.host_answers.specs.declared.Opened as opening
 use Rattle.host_claims.specs.Chains.{Chain}
-use Rattle.host_claims.proofs.Laws.{demand_3, never-malformed}
+use Rattle.host_claims.proofs.Laws.{demand_3, never_malformed}
 
 module _ {given : ℕ} {first : opening.Opened} {calls : List Call} {outcomes : List Outcome} {e : Endpoint} {store : List ℕ}
     (chain : Chain given first calls outcomes e store) where
@@ -26,5 +26,5 @@ module _ {given : ℕ} {first : opening.Opened} {calls : List Call} {outcomes : 
       ∙ sym (ap (λ (s : Run). s.ledger.reserved) (run_agrees live_max given calls)) ∙ (ledger_claims_3 given calls).same
 
   -- no live request has an ID that is 0, at most R, or equal to an earlier one's
-  pub audit-finds-none : audit (reserved_for given) (ids_of (rows_of e.live)) ≡ none
-  audit-finds-none = subst (λ (r : ℕ). audit r (ids_of (rows_of e.live)) ≡ none) keeps-reserved (sound_endpoint e (never-malformed chain))
+  pub audit_finds_none : audit (reserved_for given) (ids_of (rows_of e.live)) ≡ none
+  audit_finds_none = subst (λ (r : ℕ). audit r (ids_of (rows_of e.live)) ≡ none) keeps-reserved (sound_endpoint e (never_malformed chain))

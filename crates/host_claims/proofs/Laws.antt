@@ -108,30 +108,30 @@ same_bytes_same_items chain chain' same last last' = heard.alike chain chain' sa
 module _ {given : ℕ} {first : opening.Opened} {calls : List Call} {outcomes : List Outcome} {e : Endpoint} {store : List ℕ}
     (chain : Chain given first calls outcomes e store) where
   -- "An ending or a polled frame belongs to the last request before it whose ID it names"
-  pub all-belong : AllBelong (past_of calls outcomes)
-  all-belong = (demand_3 chain).claims.belong
+  pub all_belong : AllBelong (past_of calls outcomes)
+  all_belong = (demand_3 chain).claims.belong
 
   -- a request ends at most once; it is live and has not ended, or it has ended once
   pub at_most_once : (place : ℕ) → endings place (past_of calls outcomes) ≤ 1
   at_most_once = (demand_3 chain).claims.once
 
-  pub live-or-ended : All (Fate (past_of calls outcomes)) (requests (past_of calls outcomes))
-  live-or-ended = (demand_3 chain).claims.fates
+  pub live_or_ended : All (Fate (past_of calls outcomes)) (requests (past_of calls outcomes))
+  live_or_ended = (demand_3 chain).claims.fates
 
   -- its frame goes out at most three times, the same bytes each time
-  pub at-most-three-equal : (place : ℕ) → Few (frames place (past_of calls outcomes))
-  at-most-three-equal = (demand_3 chain).claims.alike
+  pub at_most_three_equal : (place : ℕ) → Few (frames place (past_of calls outcomes))
+  at_most_three_equal = (demand_3 chain).claims.alike
 
   -- live IDs are distinct and unreserved
-  pub distinct-ids : DistinctIds (live_after (past_of calls outcomes))
-  distinct-ids = (demand_3 chain).claims.distinct
+  pub distinct_ids : DistinctIds (live_after (past_of calls outcomes))
+  distinct_ids = (demand_3 chain).claims.distinct
 
-  pub unreserved-ids : All (Unreserved (reserved_for given)) (live_after (past_of calls outcomes))
-  unreserved-ids = (demand_3 chain).claims.unreserved
+  pub unreserved_ids : All (Unreserved (reserved_for given)) (live_after (past_of calls outcomes))
+  unreserved_ids = (demand_3 chain).claims.unreserved
 
   -- polls at one reading answer something else than *quiet* at most three times in a row
-  pub at-most-three-busy : (reading : ℕ) → restless reading (past_of calls outcomes) ≤ 3
-  at-most-three-busy = (demand_3 chain).claims.rests
+  pub at_most_three_busy : (reading : ℕ) → restless reading (past_of calls outcomes) ≤ 3
+  at_most_three_busy = (demand_3 chain).claims.rests
 
   -- so who keeps polling is told: while the clock rule is kept, every request accepted at T has ended once four polls in a row came at a
   -- reading of T + 12,000 ms or later, whatever they answered
@@ -142,26 +142,26 @@ module _ {given : ℕ} {first : opening.Opened} {calls : List Call} {outcomes : 
       polled_ends live_max 12000 (past_of calls outcomes) kept claim.in_time claim.claims.rests claim.claims.once reading polls
 
   -- refusal 1 is never answered
-  pub never-malformed : malformed e ≡ false
-  never-malformed = (demand_3 chain).sound
+  pub never_malformed : malformed e ≡ false
+  never_malformed = (demand_3 chain).sound
 
   -- the last call of a list, with its outcome, and what had happened before
   module _ (last : Entry) (before : List Entry) (ends_with : past_of calls outcomes ≡ last ∷ before) where
     -- no caller is forgotten: while the clock rule is kept, every request accepted at T has ended once a poll at T + 12,000 ms or
     -- later answers quiet
-    pub nobody-forgotten : ClockRule (last ∷ before) → (time : Option ℕ) → last.answer ≡ polled (quiet time)
+    pub nobody_forgotten : ClockRule (last ∷ before) → (time : Option ℕ) → last.answer ≡ polled (quiet time)
         → All (λ a. a.time + 12000 ≤ reading_of last.call → endings a.place (last ∷ before) ≡ 1) (requests (last ∷ before))
-    nobody-forgotten kept = ((subst (Bounded 12000) ends_with (demand_3 chain).in_time).0 kept).0
+    nobody_forgotten kept = ((subst (Bounded 12000) ends_with (demand_3 chain).in_time).0 kept).0
 
     -- and no accepted call at all comes later than that while a request is live
-    pub none-live-later : ClockRule (last ∷ before) → is_accepted last.answer ≡ true
+    pub none_live_later : ClockRule (last ∷ before) → is_accepted last.answer ≡ true
         → All (λ a. reading_of last.call ≤ a.time + 12000) (live_after before)
-    none-live-later kept = ((subst (Bounded 12000) ends_with (demand_3 chain).in_time).0 kept).1
+    none_live_later kept = ((subst (Bounded 12000) ends_with (demand_3 chain).in_time).0 kept).1
 
   -- a poll that answers quiet names a time of 1 to 3,000 ms while anybody is live, and *no deadline* only where nobody is
-  pub quiet-names-a-time : (c : Call) (r : Result) → Promise e store c r → (time : Option ℕ) → r.answer ≡ polled (quiet time)
+  pub quiet_names_a_time : (c : Call) (r : Result) → Promise e store c r → (time : Option ℕ) → r.answer ≡ polled (quiet time)
       → QuietTime (ledger_of e store).live time
-  quiet-names-a-time c r promised time answered =
+  quiet_names_a_time c r promised time answered =
       let known = refines chain in
       let same = known.ledger ∙ sym (ap (λ (s : Run). s.ledger) (run_agrees live_max given calls)) in
       let said = sym (steps e store c r known.sound promised).answers ∙ answered in

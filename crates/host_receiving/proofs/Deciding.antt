@@ -116,24 +116,24 @@ module _ (e : Endpoint) (d : Decision) (v : Verdict) (clock replied : ℕ) (r : 
   untouched h = rw h.word (placed_none buffer)
 
   -- *more*
-  pub on-more : replied ≡ 0 → d.answer ≡ More → NoMore v e
+  pub on_more : replied ≡ 0 → d.answer ≡ More → NoMore v e
       → Does (ledger.receive (ledger_of e entry) new reply buffer clock) (receive_result r exit reply buffer)
-  on-more no-reply more h =
+  on_more no-reply more h =
       same-act [] reply buffer (rw (more, h.word, h.change, h.seen))
       (record { counts = no-reply; leaves = sym (placed_none reply) }) (untouched h)
 
   -- an item that is no message
-  pub on-plain : (i : Item) (left : List ℕ) → d.answer ≡ One i → OneOf (0 ∷ 1 ∷ 2 ∷ []) (tag_of the_type i)
+  pub on_plain : (i : Item) (left : List ℕ) → d.answer ≡ One i → OneOf (0 ∷ 1 ∷ 2 ∷ []) (tag_of the_type i)
       → NoMore v e → Put replied (reply_for (item_of i)) reply left
       → Does (ledger.receive (ledger_of e entry) new reply buffer clock) (receive_result r exit left buffer)
-  on-plain i left one k h put =
+  on_plain i left one k h put =
       same-act (reply_for (item_of i)) left buffer (answered (One i) one ∙ plain e clock v i (decided_part d middle new) entry h k) put
       (untouched h)
 
   -- a message
-  pub on-message : (t len : ℕ) (q : Seq) (left given : List ℕ) → d.answer ≡ One (Message t q len)
+  pub on_message : (t len : ℕ) (q : Seq) (left given : List ℕ) → d.answer ≡ One (Message t q len)
       → Put replied (reply_to t q.0) reply left → Judges v e t q.0 (decided_part d middle new) clock
       → given ≡ placed 0 (bytes_for v.word (decided_part d middle new)) buffer
       → Does (ledger.receive (ledger_of e entry) new reply buffer clock) (receive_result r exit left given)
-  on-message t len q left given one put judges gives =
+  on_message t len q left given one put judges gives =
       same-act (reply_to t q.0) left given (answered (One (Message t q len)) one ∙ judges.acts entry) put (sym gives)

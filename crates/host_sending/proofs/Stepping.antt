@@ -36,7 +36,7 @@ use Rattle.frames.specs.Promises.{Put}
 use Rattle.decisions_poll.specs.Steps.{step_of, sent_from, Reaches, Steps}
 use Rattle.decisions_poll.specs.declared.Step.{Step}
 use Rattle.decisions_poll.specs.declared.Step.TheVariants as step
-use Rattle.refinement.proofs.Sound.{held_of, fits-of}
+use Rattle.refinement.proofs.Sound.{held_of, fits_of}
 use Rattle.host_answers.specs.Promises.{Result, poll_result}
 use Rattle.refusals.specs.Code.{with_endpoint}
 use Rattle.host_answers.specs.Code.{Sound, Does}
@@ -62,7 +62,7 @@ module _ (e : Endpoint) (clock : ℕ) (store : List ℕ) (ready : Sound e clock)
       }) exit output)
   ended row cause live after exit output three less becomes back =
       let held = held_same e.held store exit (held_of e ready.sound) becomes.holds in
-      let it = live_at e.live three (fits-of e ready.sound) store row less in
+      let it = live_at e.live three (fits_of e ready.sound) store row less in
       rw back (record {
         answers = rw it;
         leaves = rw (placed_none output);
@@ -93,33 +93,33 @@ module _ (e : Endpoint) (clock : ℕ) (store : List ℕ) (ready : Sound e clock)
       → time_of time ≡ map (◌- clock) (earliest (live_of e.live store))
   rests time left = left ∙ ap (left_of clock) (sym (earliest_rows (rows_of e.live) 0 store))
 
-  pub quiet-in : (time : Time) (ms : ℕ) (after : Endpoint) (output : List ℕ)
+  pub quiet_in : (time : Time) (ms : ℕ) (after : Endpoint) (output : List ℕ)
       → time_of time ≡ left_of clock (earliest (bare_of (rows_of e.live))) → time ≡ In ms
       → after ≡ polled_endpoint e e.live e.seq clock
       → Does (polled_as (ledger_of e store) (step4 (ledger_of e store) clock) output clock)
       (poll_result (record { answer = answer.Quiet ms; endpoint = after }) store output)
-  quiet-in time ms after output left told back =
+  quiet_in time ms after output left told back =
       let some-ms : some ms ≡ map (◌- clock) (earliest (live_of e.live store)) = ap time_of (sym told) ∙ rests time left in
       rw back (record {
         answers = ap (λ (t : Option ℕ). polled (quiet t)) some-ms;
         leaves = rw (placed_none output);
         next = refl;
-        fits = fits-of e ready.sound;
+        fits = fits_of e ready.sound;
         holds = held_of e ready.sound;
       })
 
-  pub quiet-never : (time : Time) (after : Endpoint) (output : List ℕ)
+  pub quiet_never : (time : Time) (after : Endpoint) (output : List ℕ)
       → time_of time ≡ left_of clock (earliest (bare_of (rows_of e.live))) → time ≡ Never
       → after ≡ polled_endpoint e e.live e.seq clock
       → Does (polled_as (ledger_of e store) (step4 (ledger_of e store) clock) output clock)
       (poll_result (record { answer = answer.NoDeadline; endpoint = after }) store output)
-  quiet-never time after output left told back =
+  quiet_never time after output left told back =
       let none_left : none ≡ map (◌- clock) (earliest (live_of e.live store)) = ap time_of (sym told) ∙ rests time left in
       rw back (record {
         answers = ap (λ (t : Option ℕ). polled (quiet t)) none_left;
         leaves = rw (placed_none output);
         next = refl;
-        fits = fits-of e ready.sound;
+        fits = fits_of e ready.sound;
         holds = held_of e ready.sound;
       })
 

@@ -24,10 +24,10 @@ use Rattle.endpoint.specs.declared.Request.{Request}
 use Rattle.endpoint.specs.declared.Requests.{Requests}
 use Rattle.endpoint.specs.declared.State.TheVariants.{Queued}
 use Rattle.live_changes.specs.Changing.{Becomes}
-use Rattle.live_changes.proofs.Becoming.{length-live}
+use Rattle.live_changes.proofs.Becoming.{length_live}
 use Rattle.live_ids.proofs.FirstFree.{free_rows}
 use Rattle.refinement.specs.Refusals.{refusal_of}
-use Rattle.refinement.proofs.Sound.{few-of, held_of, fits-of}
+use Rattle.refinement.proofs.Sound.{few_of, held_of, fits_of}
 use Rattle.host_answers.specs.Promises.{submit_result}
 use Rattle.refusals.specs.Code.{with_endpoint}
 use Rattle.host_answers.specs.Code.{Sound, Does}
@@ -44,7 +44,7 @@ module _ (e : Endpoint) (fields : Fields) (wanted : Bool) (clock : ℕ) (store b
   found-id id found =
       found
       ∙ sym (ap (λ (n : ℕ). first_free n e.reserved (live_of e.live store) e.next.0)
-      (length-live e.live three (fits-of e ready.sound) store)
+      (length_live e.live three (fits_of e ready.sound) store)
       ∙ free_rows e.live.count e.reserved (rows_of e.live) 0 store e.next.0)
 
   -- the request that joins
@@ -92,7 +92,7 @@ submit_table e store fields bytes wanted clock three = go (malformed e) refl
         → first_of (with_endpoint e clock (line 4 (ltb max_data (length bytes)) ∷ line 5 (eqb e.live.count live_max) ∷ []))
         ≡ refusal_of e store (call.submit fields bytes wanted clock)
     go true bad = first_holds 1 (malformed e) _ bad ∙ sym (first_holds 1 (malformed e) _ bad)
-    go false fine = rw (length-live e.live three (fits-of e fine) store)
+    go false fine = rw (length_live e.live three (fits_of e fine) store)
 
 -- an accepted submit has room for its data and its request
 pub record Room (e : Endpoint) (bytes : List ℕ) : Type 0 where
@@ -106,6 +106,6 @@ room_of e bytes clock h =
     let p = passed e clock _ h in
     let first = own_passed 4 (ltb max_data (length bytes)) _ p.rest in
     let second = own_passed 5 (eqb e.live.count live_max) [] first.1 in
-    let few = few-of e p.fine in
+    let few = few_of e p.fine in
     let less = eqb-false e.live.count live_max second.0 in
     record { short = ltb-false max_data (length bytes) first.0; free = omega (arith, less) }

@@ -56,9 +56,9 @@ data Ahead (r id k x : ℕ) : Type 0 where
   around : x + last_id ≡ id + k + r → Ahead r id k x
 
 module _ (r : ℕ) (small : r < last_id) where
-  pub after-unreserved : {id : ℕ} → Unreserved r id → Unreserved r (id_after r id)
+  pub after_unreserved : {id : ℕ} → Unreserved r id → Unreserved r (id_after r id)
   unfolding id_after
-  after-unreserved {id} h =
+  after_unreserved {id} h =
       by_test (λ b. Unreserved r (if b (suc r) (suc id))) (eqb id last_id)
       (λ e. record { above = omega arith; within = omega arith })
       (λ e. let ne = eqb-false id last_id e in record { above = omega arith; within = omega arith })
@@ -98,25 +98,25 @@ module _ (r : ℕ) (small : r < last_id) where
       (λ e. rest)
       (λ e. record { same = refl; other = away p k-less a }))
 
-  pub first-free : (n : ℕ) (qs : List Request) {id : ℕ} → length qs ≤ n → n + 1 + r < last_id → Unreserved r id
+  pub first_free_law : (n : ℕ) (qs : List Request) {id : ℕ} → length qs ≤ n → n + 1 + r < last_id → Unreserved r id
       → is_live (first_free n r qs id) qs ≡ false
   unfolding first_free is_live
-  first-free zero [] few less u = refl
-  first-free zero (q ∷ qs) few less u = absurd (omega arith)
-  first-free (suc n) qs {id} few less u =
+  first_free_law zero [] few less u = refl
+  first_free_law zero (q ∷ qs) few less u = absurd (omega arith)
+  first_free_law (suc n) qs {id} few less u =
       by_test (λ b. is_live (if b (first_free n r qs (id_after r id)) id) qs ≡ false) (is_live id qs)
       (λ e.
       let now : Ahead r id 0 id = straight (omega arith) in
       let s = agree n {k = 1} u.within qs (omega arith) (omega arith) (step-on {k = 0} u.within (omega arith) now) in
       let few : length (removed id qs) ≤ n = omega (arith, one_fewer id qs e) in
-      let rest = first-free n (removed id qs) few (omega arith) (after-unreserved u) in
+      let rest = first_free_law n (removed id qs) few (omega arith) (after_unreserved u) in
       sym (others_stay id (first_free n r qs (id_after r id)) s.other qs) ∙ rw s.same rest)
       (λ e. e)
 
-  pub free-unreserved : (n : ℕ) (qs : List Request) {id : ℕ} → Unreserved r id → Unreserved r (first_free n r qs id)
+  pub free_unreserved : (n : ℕ) (qs : List Request) {id : ℕ} → Unreserved r id → Unreserved r (first_free n r qs id)
   unfolding first_free
-  free-unreserved zero qs u = u
-  free-unreserved (suc n) qs {id} u =
+  free_unreserved zero qs u = u
+  free_unreserved (suc n) qs {id} u =
       by_test (λ b. Unreserved r (if b (first_free n r qs (id_after r id)) id)) (is_live id qs)
-      (λ e. free-unreserved n qs (after-unreserved u))
+      (λ e. free_unreserved n qs (after_unreserved u))
       (λ e. u)

@@ -34,7 +34,7 @@ use Rattle.ledger.specs.Changes.{ids_on, FirstNotLive, SubmitChanges, last_seq_a
 use Rattle.ledger.proofs.Cases.{by_test}
 use Rattle.ledger.proofs.States.{flies_state, acknowledged_state, matched_state, queued_state, overdue_state}
 use Rattle.ledger.proofs.Searches.{Looked, one_shows, look, find_oldest}
-use Rattle.ledger.proofs.FreeId.{Unreserved, first-free}
+use Rattle.ledger.proofs.FreeId.{Unreserved, first_free_law}
 
 -- submit
 pub submit_changes : (limit : ℕ) (l : Ledger) (fields : Fields) (bytes : List ℕ) (wanted : Bool) (t id : ℕ)
@@ -93,7 +93,7 @@ issued_first l room next =
       steps = p.steps;
       place = p.place;
       passed = p.passed;
-      free = first-free l.reserved (omega arith) (length l.live) l.live (omega arith) room next;
+      free = first_free_law l.reserved (omega arith) (length l.live) l.live (omega arith) room next;
     }
 
 -- receive: what each kind of item does to the last SEQ and to the live requests
@@ -156,9 +156,9 @@ module _ (l : Ledger) (t : ℕ) where
       (λ e. record { seen = same-last l.seen seq e; live = changes.Hears.nobody refl refl })
       (λ e. record { seen = refl; live = (on-data payload).live })
 
-  on-message : (type seq : ℕ) (payload : List ℕ) → Acts (if (eqb type data_seq) (some seq) l.seen) (onMessage l t type seq payload)
+  on_message : (type seq : ℕ) (payload : List ℕ) → Acts (if (eqb type data_seq) (some seq) l.seen) (onMessage l t type seq payload)
   unfolding onMessage
-  on-message type seq payload =
+  on_message type seq payload =
       let acked = oldest (λ q. acknowledged_in seq q.state) l.live in
       by_test (λ b. Acts (if (eqb type data_seq) (some seq) l.seen) (if b (onAck l t acked)
       (if (eqb type nak) (onNak l t (oldest flies l.live)) (if (eqb type data_seq) (onSequenced l t seq payload) (onData l t payload)))))
@@ -178,7 +178,7 @@ module _ (l : Ledger) (t : ℕ) where
   on-item (item damaged_header) payload = calm l.seen (act l t (item damaged_header) payload) refl refl refl
   on-item (item forbidden) payload = calm l.seen (act l t (item forbidden) payload) refl refl refl
   on-item (item damaged_payload) payload = calm l.seen (act l t (item damaged_payload) payload) refl refl refl
-  on-item (item (items.message type seq len)) payload = on-message type seq payload
+  on-item (item (items.message type seq len)) payload = on_message type seq payload
 
 pub receive_changes : (limit : ℕ) (l : Ledger) (bytes reply buffer : List ℕ) (t : ℕ) (r : Receipt)
     → (step limit l (receive bytes reply buffer t)).answer ≡ received r

@@ -1,7 +1,7 @@
 -- What is held is within the limit, and every byte that is taken is dropped, removed or held.
 use Prim.Native.Nat.{ℕ, zero, suc, ◌+◌, ◌≤◌, ◌<◌}
 use mathlib.Core.Bool.{Bool, true, false, true≢false}
-use mathlib.Core.List.{List, ◌++◌, append_assoc, append-nil}
+use mathlib.Core.List.{List, ◌++◌, append_assoc, append_nil}
 use mathlib.Core.Path.{◌≡◌, refl, sym, ap, ◌∙◌}
 use native.Mathlib.Omega.{arith}
 use lib.Dec.{leb}
@@ -14,7 +14,7 @@ use Rattle.line.specs.Cuts.{handed_in, handed, gone, gone_in, went_in, went}
 use Rattle.line.specs.Receiving.{held_max, decides, taken, left, receive}
 use Rattle.line.proofs.Gives.{undecided_left}
 use Rattle.line.proofs.Got.{Got, got_more, got_item, got}
-use Rattle.line.proofs.Handed.{size, item_shrinks, handed-step}
+use Rattle.line.proofs.Handed.{size, item_shrinks, handed_step}
 use Rattle.line.proofs.Reach.{reach, reached, scan_less}
 
 -- the last byte that is taken decides the item
@@ -81,7 +81,7 @@ module _ (n : ℕ) (again : (held piece : List ℕ) → size held piece < n
       → held ++ piece ≡ went_in (suc n) held piece ++ (handed_in (suc n) held piece).held
   unfolding went_in handed_in
   accounts-by held piece (got_more {e} h got-it) few =
-      rw (got-it, take-length piece, h, append-nil (take e (held ++ piece))) (sym (take-append-drop e (held ++ piece)))
+      rw (got-it, take-length piece, h, append_nil (take e (held ++ piece))) (sym (take-append-drop e (held ++ piece)))
   accounts-by held piece (got_item {i} {d} {r} t within h none got-it) few =
       let looked = held ++ take t piece in
       let shrinks = item_shrinks held piece t within h in
@@ -108,10 +108,10 @@ bounds_by : (n : ℕ)
     → (held piece : List ℕ) → Got held piece → size held piece < suc n → length held ≤ held_max
     → length (handed held piece).held ≤ held_max
 bounds_by n next held piece (got_more h got-it) few short =
-    rw (handed-step held piece, got-it, h) (undecided_left (held ++ piece) h).1
+    rw (handed_step held piece, got-it, h) (undecided_left (held ++ piece) h).1
 bounds_by n next held piece (got_item {i} {d} {r} t within h none got-it) few short =
     let shrinks = item_shrinks held piece t within h in
-    rw (handed-step held piece, got-it, h)
+    rw (handed_step held piece, got-it, h)
     (next (drop (d + r) (held ++ take t piece)) (drop t piece) (omega arith) (item_bounded held piece t short within h none))
 
 bounds_within : (n : ℕ) (held piece : List ℕ) → size held piece < n → length held ≤ held_max

@@ -1,7 +1,7 @@
 -- Handing in call by call: the bytes that a call takes decide as all of its bytes do, and each call goes on where the one before it
 -- stopped.
 use Prim.Native.Nat.{ℕ, ◌≤◌}
-use mathlib.Core.List.{List, [], ◌++◌, append_assoc, append-nil}
+use mathlib.Core.List.{List, [], ◌++◌, append_assoc, append_nil}
 use mathlib.Core.Path.{◌≡◌, sym, ap, ◌∙◌}
 use native.Mathlib.Omega.{arith}
 use lib.ListN.{length, take, drop, length-take, drop_of_length-le}
@@ -10,8 +10,8 @@ use Rattle.line.specs.Cuts.{Found, before, on_answer, handed}
 use Rattle.line.specs.Receiving.{decides, Answer, more, item, receive}
 use Rattle.line.proofs.Dropped.{left_waits}
 use Rattle.line.proofs.Got.{Got, got_more, got_item, got}
-use Rattle.line.proofs.Handed.{handed-step, handed_joined}
-use Rattle.line.proofs.Taking.{receive-at, at_more}
+use Rattle.line.proofs.Handed.{handed_step, handed_joined}
+use Rattle.line.proofs.Taking.{receive_at, at_more}
 
 -- without the bytes that it leaves, a call gives the same
 suffices_by : (held new : List ℕ) → Got held new → receive held (take (receive held new).taken new) ≡ receive held new
@@ -21,7 +21,7 @@ suffices_by held new (got_item k within h none got-it) =
     let size : length (take k new) ≡ k = length-take-le k new within in
     rw got-it
     (rw (same k (omega arith)) at
-    (receive-at held (take k new) k (omega arith) (λ few. absurd (omega arith)) (λ j few. rw (same j (omega arith)) (none j few))))
+    (receive_at held (take k new) k (omega arith) (λ few. absurd (omega arith)) (λ j few. rw (same j (omega arith)) (none j few))))
 
 pub taken_suffices : (held new : List ℕ) → receive held (take (receive held new).taken new) ≡ receive held new
 taken_suffices held new = suffices_by held new (got held new)
@@ -32,8 +32,8 @@ rests_by : (held new : List ℕ) → Got held new → (receive held new).answer 
 rests_by held new (got_more {e} h got-it) said =
     let rest = drop e (held ++ new) in
     let waits = left_waits (held ++ new) h in
-    let same = append-nil rest in
-    rw (got-it, h) (handed-step rest [] ∙ rw (at_more rest [] (rw same (ap decides waits)), same, waits))
+    let same = append_nil rest in
+    rw (got-it, h) (handed_step rest [] ∙ rw (at_more rest [] (rw same (ap decides waits)), same, waits))
 rests_by held new (got_item k within h none got-it) said =
     let told : ◌≡◌ {A = Answer} (item _) more = rw (got-it, h) at said in
     let z : ◌≡◌ {A = ℕ} 0 1 = cc in absurd (omega arith)
@@ -49,7 +49,7 @@ pub taken_handed : (held new : List ℕ)
 taken_handed held new =
     let k = (receive held new).taken in
     let none_left : drop k (take k new) ≡ [] = drop_of_length-le (take k new) {i = k} (rw (length-take k new) (omega arith)) in
-    handed-step held (take k new) ∙ rw (taken_suffices held new, none_left)
+    handed_step held (take k new) ∙ rw (taken_suffices held new, none_left)
 
 -- bytes behind others: where those gave some items and leave some bytes held, the next ones go on from there
 pub handed_on : (start ahead behind held : List ℕ) (items : List Found) → handed start ahead ≡ before items (handed held [])

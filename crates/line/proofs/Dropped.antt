@@ -1,6 +1,6 @@
 -- Held bytes that decide nothing: those that are dropped go, and the others receive the same.
 use Prim.Native.Nat.{ℕ, ◌+◌, ◌≤◌}
-use mathlib.Core.List.{List, [], append-nil}
+use mathlib.Core.List.{List, [], append_nil}
 use mathlib.Core.Path.{◌≡◌, sym, ap, ◌∙◌}
 use native.Mathlib.Omega.{arith}
 use lib.ListN.{length, take, drop, drop_of_length-le}
@@ -9,7 +9,7 @@ use Rattle.message.specs.Items.{Scan, undecided, decided, dropped, scan}
 use Rattle.message.proofs.Dropping.{dropped_within}
 use Rattle.line.specs.Receiving.{held_max, receive}
 use Rattle.line.proofs.Gives.{undecided_left}
-use Rattle.line.proofs.Joined.{later, scan-joined}
+use Rattle.line.proofs.Joined.{later, scan_joined}
 use Rattle.line.proofs.Moving.{drop_take}
 use Rattle.line.proofs.Taking.{receive_dropped}
 
@@ -22,7 +22,7 @@ pub left_waits : (xs : List ℕ) {d : ℕ} → scan xs ≡ undecided d → scan 
 left_waits xs {d} h =
     let same : d ≡ dropped xs = (undecided_left xs h).0 in
     let joined : scan xs ≡ later d (scan (drop d xs)) =
-    rw same (rw (append-nil xs, append-nil (drop (dropped xs) xs)) at (scan-joined xs [])) in
+    rw same (rw (append_nil xs, append_nil (drop (dropped xs) xs)) at (scan_joined xs [])) in
     left_by d (scan (drop d xs)) (sym h ∙ joined)
 
 -- and receives the same
@@ -38,8 +38,8 @@ module _ (count d : ℕ) (array : List ℕ) (size : length array ≡ held_max) (
   drops = omega (arith, undecided_left (take count array) none, dropped_within (take count array), length-held)
 
   -- nothing is left
-  pub all-dropped : (new : List ℕ) → count ≡ d → receive (take count array) new ≡ receive [] new
-  all-dropped new same =
+  pub all_dropped : (new : List ℕ) → count ≡ d → receive (take count array) new ≡ receive [] new
+  all_dropped new same =
       rw (drop_of_length-le (take count array) {i = d} (omega (arith, length-held))) at (left_receives (take count array) new none)
 
   -- some are left

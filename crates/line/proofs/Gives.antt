@@ -12,7 +12,7 @@ use Rattle.message.specs.Promises.{item_of}
 use Rattle.message.specs.Writing.{placed}
 use Rattle.message.specs.declared.Item.{Item}
 use Rattle.message.specs.declared.Item.TheVariants.{DamagedHeader, Forbidden, DamagedPayload, Message}
-use Rattle.message.proofs.Buffer.{through-placed}
+use Rattle.message.proofs.Buffer.{through_placed}
 use Rattle.message.proofs.Dropping.{dropped_within}
 use Rattle.message.proofs.Found.{scan_within, message_at}
 use Rattle.message.proofs.Headers.{allowed_short}
@@ -78,11 +78,11 @@ module _ (array xs : List ℕ) (stands : take (length xs) array ≡ xs) where
       ∙ ap (λ (l : List ℕ). take k (drop n l)) stands
       ∙ take_all k (drop n xs) (rw (length-drop n xs) (omega arith))
 
-  pub gives-item : (d : Decision) (held new : List ℕ) (k : ℕ) (i : Item) (n r : ℕ) → receive held new ≡ received_from xs k
+  pub gives_item : (d : Decision) (held new : List ℕ) (k : ℕ) (i : Item) (n r : ℕ) → receive held new ≡ received_from xs k
       → scan xs ≡ decided (item_of i) n r → length xs ≤ held_max
       → (d.answer ≡ One i) × (d.taken ≡ k) × (d.start ≡ n + r) × (d.start + d.count ≡ length xs)
       × (d.payload ≡ Held (n + header_length)) → Decides d held new array
-  gives-item d held new k i n r got h within said = record {
+  gives_item d held new k i n r got h within said = record {
     gives =
         rw (
           said.0,
@@ -99,7 +99,7 @@ module _ (array xs : List ℕ) (stands : take (length xs) array ≡ xs) where
 
 -- bytes put at the front stand there
 pub front_placed : (m l : List ℕ) → length m ≤ length l → take (length m) (placed 0 m l) ≡ m
-front_placed m l fits = rw (zero-add (length m)) at (through-placed 0 m l (omega arith))
+front_placed m l fits = rw (zero-add (length m)) at (through_placed 0 m l (omega arith))
 
 payload_new : (i : Item) (n r k : ℕ) (new array : List ℕ) → scan (take k new) ≡ decided (item_of i) n r
     → part_of (One i) (New (n + header_length)) array new ≡ payload_of (take k new)
@@ -131,10 +131,10 @@ module _ (i : Item) (n r k : ℕ) (new : List ℕ) (h : scan new ≡ decided (it
         omega (arith, b.longest, scan_within new h),
       )
 
-  pub gives-new : (d : Decision) (array : List ℕ)
+  pub gives_new : (d : Decision) (array : List ℕ)
       → (d.answer ≡ One i) × (d.taken ≡ k) × (d.start ≡ 0) × (d.count ≡ length follows) × (d.payload ≡ New (n + header_length))
       → take (length follows) array ≡ follows → Decides d [] new array
-  gives-new d array said stands =
+  gives_new d array said stands =
       let e = ends in
       let t = at_new new k h (last ∙ taken_new new h) in
       let sum : n + r + (k - (n + r)) ≡ k = omega (arith, e) in

@@ -16,7 +16,7 @@ use Rattle.message.proofs.Headers.{allowed_short}
 use Rattle.message.proofs.More.{scan_more}
 use Rattle.line.specs.Receiving.{decides, Answer, more, item, answered, received_from, receive}
 use Rattle.line.proofs.Smallest.{told}
-use Rattle.line.proofs.Taking.{decides_less, receive-at, at_more}
+use Rattle.line.proofs.Taking.{decides_less, receive_at, at_more}
 
 -- *more*, or an item that k new bytes decide and fewer do not
 pub data Got (held new : List ℕ) : Type 0 where
@@ -31,7 +31,7 @@ module _ (held new : List ℕ) where
 
   got-by : (k : ℕ) → k ≤ length new → (k < length new → test k ≡ true) → ((j : ℕ) → j < k → test j ≡ false)
       → (s : Scan) → scan (held ++ take k new) ≡ s → Got held new
-  got-by k within here none (decided i d r) h = got_item k within h none (receive-at held new k within here none)
+  got-by k within here none (decided i d r) h = got_item k within h none (receive_at held new k within here none)
   got-by k within here none (undecided e) h = at_end (ltb k (length new)) refl where
     at_end : (b : Bool) → ltb k (length new) ≡ b → Got held new
     at_end true l = absurd (true≢false (sym (here (ltb-true k (length new) l)) ∙ ap decides h))

@@ -1,6 +1,6 @@
 -- A piece handed in, its untaken rest again, until *more*: each item removes bytes, so it comes to an end, and cuts change nothing.
 use Prim.Native.Nat.{ℕ, zero, suc, ◌+◌, ◌≤◌, ◌<◌}
-use mathlib.Core.List.{List, [], ◌∷◌, ◌++◌, append-nil}
+use mathlib.Core.List.{List, [], ◌∷◌, ◌++◌, append_nil}
 use mathlib.Core.Path.{◌≡◌, refl, sym, ap, ◌∙◌}
 use native.Mathlib.Omega.{arith}
 use lib.ListN.{length, take, drop, length-append, length-drop}
@@ -10,7 +10,7 @@ use Rattle.message.proofs.Found.{scan_within}
 use Rattle.line.specs.Cuts.{found, before, on_answer, handed_in, handed, handed_each, joined}
 use Rattle.line.specs.Receiving.{smallest, taken, receive}
 use Rattle.line.proofs.Got.{Got, got_more, got_item, got}
-use Rattle.line.proofs.Later.{after, item_stays, more-then}
+use Rattle.line.proofs.Later.{after, item_stays, more_then}
 
 -- how many bytes there are to go through
 abbrev pub size : List ℕ → List ℕ → ℕ
@@ -57,29 +57,29 @@ module _ (held piece : List ℕ) where
       rw (got-it, h)
       (ap (before (found i _ ∷ [])) (same (size held piece) (suc (size left (drop t piece))) left (drop t piece) few (omega arith)))
 
-  pub handed-step : handed held piece
+  pub handed_step : handed held piece
       ≡ on_answer (receive held piece).answer (receive held piece).held (receive held piece).payload
       (handed (receive held piece).held (drop (receive held piece).taken piece))
-  handed-step = step_by (got held piece)
+  handed_step = step_by (got held piece)
 
 -- a piece in two parts
 module _ (a b : List ℕ) where
   behind_more : (held : List ℕ) {e : ℕ} → scan (held ++ a) ≡ undecided e → handed held (a ++ b) ≡ handed (drop e (held ++ a)) b
   behind_more held {e} h =
-      handed-step held (a ++ b)
-      ∙ rw (more-then held a b h, drop-append-add a b (receive (drop e (held ++ a)) b).taken)
-      (sym (handed-step (drop e (held ++ a)) b))
+      handed_step held (a ++ b)
+      ∙ rw (more_then held a b h, drop-append-add a b (receive (drop e (held ++ a)) b).taken)
+      (sym (handed_step (drop e (held ++ a)) b))
 
   module _ (n : ℕ) (again : (held a : List ℕ) → size held a < n
       → handed held (a ++ b) ≡ before (handed held a).items (handed (handed held a).held b)) where
     joined_by : (held : List ℕ) → Got held a → size held a < suc n
         → handed held (a ++ b) ≡ before (handed held a).items (handed (handed held a).held b)
-    joined_by held (got_more h got-it) few = rw (handed-step held a, got-it, h) (behind_more held h)
+    joined_by held (got_more h got-it) few = rw (handed_step held a, got-it, h) (behind_more held h)
     joined_by held (got_item {i} {d} {r} t within h none got-it) few =
         let shrinks = item_shrinks held a t within h in
         let rest = again (drop (d + r) (held ++ take t a)) (drop t a) (omega arith) in
-        rw (handed-step held a, got-it, h)
-        (handed-step held (a ++ b)
+        rw (handed_step held a, got-it, h)
+        (handed_step held (a ++ b)
         ∙ rw (item_stays held a b t within h none, h, drop-append-le t a b within) (ap (before (found i _ ∷ [])) rest))
 
 joined_within : (b : List ℕ) (n : ℕ) (held a : List ℕ) → size held a < n
@@ -94,7 +94,7 @@ handed_joined held a b = joined_within b (suc (size held a)) held a (omega arith
 pub each_joined : (held piece : List ℕ) (pieces : List (List ℕ)) → handed_each held (piece ∷ pieces)
     ≡ handed held (joined (piece ∷ pieces))
 unfolding handed_each joined
-each_joined held piece [] = rw (append-nil piece, append-nil (handed held piece).items)
+each_joined held piece [] = rw (append_nil piece, append_nil (handed held piece).items)
 each_joined held piece (next ∷ pieces) =
     ap (before (handed held piece).items) (each_joined (handed held piece).held next pieces)
     ∙ sym (handed_joined held piece (joined (next ∷ pieces)))

@@ -9,7 +9,7 @@ use lib.Seq.{drop-drop, drop-append-le}
 use Rattle.message.specs.Bytes.{header_length}
 use Rattle.message.specs.Items.{damaged_header, forbidden, damaged_payload, message, Scan, undecided, decided, stands, dropped, rules, scan, part_with, payload_of}
 use Rattle.message.proofs.Dropping.{dropped_within}
-use Rattle.message.proofs.Rules.{Applied, by_1, by_2, by_3, by_4, by_5, by_6, applied, rule-1, rule-2, rule-3, rule-4, rule-5, rule-6}
+use Rattle.message.proofs.Rules.{Applied, by_1, by_2, by_3, by_4, by_5, by_6, applied, rule_1, rule_2, rule_3, rule_4, rule_5, rule_6}
 use Rattle.line.specs.Receiving.{decides, answered, left, received_from}
 
 -- what is said after n bytes more were dropped
@@ -18,12 +18,12 @@ later n (undecided d) = undecided (n + d)
 later n (decided i d r) = decided i (n + d) r
 
 rules_by : (n m : ℕ) (xs : List ℕ) (s : Scan) → Applied m xs s → rules (n + m) xs ≡ later n s
-rules_by n m xs s (by_1 short e) = rw e (rule-1 (n + m) xs short)
-rules_by n m xs s (by_2 long bad e) = rw e (rule-2 (n + m) xs long bad)
-rules_by n m xs s (by_3 long sound bad e) = rw e (rule-3 (n + m) xs long sound bad)
-rules_by n m xs s (by_4 long sound fine short e) = rw e (rule-4 (n + m) xs long sound fine short)
-rules_by n m xs s (by_5 long sound fine whole bad e) = rw e (rule-5 (n + m) xs long sound fine whole bad)
-rules_by n m xs s (by_6 long sound fine whole good e) = rw e (rule-6 (n + m) xs long sound fine whole good)
+rules_by n m xs s (by_1 short e) = rw e (rule_1 (n + m) xs short)
+rules_by n m xs s (by_2 long bad e) = rw e (rule_2 (n + m) xs long bad)
+rules_by n m xs s (by_3 long sound bad e) = rw e (rule_3 (n + m) xs long sound bad)
+rules_by n m xs s (by_4 long sound fine short e) = rw e (rule_4 (n + m) xs long sound fine short)
+rules_by n m xs s (by_5 long sound fine whole bad e) = rw e (rule_5 (n + m) xs long sound fine whole bad)
+rules_by n m xs s (by_6 long sound fine whole good e) = rw e (rule_6 (n + m) xs long sound fine whole good)
 
 rules_later : (n m : ℕ) (xs : List ℕ) → rules (n + m) xs ≡ later n (rules m xs)
 rules_later n m xs = rules_by n m xs (rules m xs) (applied m xs)
@@ -60,8 +60,8 @@ module _ (xs ys : List ℕ) where
   unfolding scan
   scan-by e h sum = rw (sum, drop-joined e, rules_later (dropped xs) e (drop e rest), h)
 
-  pub scan-joined : scan (xs ++ ys) ≡ later (dropped xs) (scan rest)
-  scan-joined = scan-by (dropped rest) refl (dropped_joined xs ys)
+  pub scan_joined : scan (xs ++ ys) ≡ later (dropped xs) (scan rest)
+  scan_joined = scan-by (dropped rest) refl (dropped_joined xs ys)
 
 -- so a call's answer, payload and held bytes are the same
 module _ (d : ℕ) (xs ys : List ℕ) (same : (n : ℕ) → drop (d + n) xs ≡ drop n ys) where
@@ -90,11 +90,11 @@ decides_later d (undecided n) = refl
 decides_later d (decided i n r) = refl
 
 pub decides_joined : (xs ys : List ℕ) → decides (scan (xs ++ ys)) ≡ decides (scan (drop (dropped xs) xs ++ ys))
-decides_joined xs ys = ap decides (scan-joined xs ys) ∙ decides_later (dropped xs) (scan (drop (dropped xs) xs ++ ys))
+decides_joined xs ys = ap decides (scan_joined xs ys) ∙ decides_later (dropped xs) (scan (drop (dropped xs) xs ++ ys))
 
 pub received_joined : (xs ys : List ℕ) (n : ℕ) → received_from (xs ++ ys) n ≡ received_from (drop (dropped xs) xs ++ ys) n
 received_joined xs ys n =
-    received-later (dropped xs) (xs ++ ys) (drop (dropped xs) xs ++ ys) (drop-joined xs ys) (scan-joined xs ys) n
+    received-later (dropped xs) (xs ++ ys) (drop (dropped xs) xs ++ ys) (drop-joined xs ys) (scan_joined xs ys) n
 
 one : (n : ℕ) → 1 + n ≡ suc n
 one n = omega arith

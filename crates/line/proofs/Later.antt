@@ -12,7 +12,7 @@ use Rattle.message.specs.Items.{Item, undecided, decided, scan}
 use Rattle.line.specs.Receiving.{decides, Received, received_from, receive}
 use Rattle.line.proofs.Dropped.{left_receives}
 use Rattle.line.proofs.Got.{Got, got_more, got_item, got}
-use Rattle.line.proofs.Taking.{decides_less, receive-at, at_more}
+use Rattle.line.proofs.Taking.{decides_less, receive_at, at_more}
 
 -- the same with n bytes more taken
 abbrev pub after : ℕ → Received → Received
@@ -24,7 +24,7 @@ pub item_stays : (held a b : List ℕ) {i : Item} {d r : ℕ} (k : ℕ) → k �
 item_stays held a b k within h none =
     let same : (j : ℕ) → j ≤ k → take j (a ++ b) ≡ take j a = λ j le. take-append-le j a b (omega arith) in
     rw (same k (omega arith)) at
-    (receive-at held (a ++ b) k (rw (length-append a b) (omega arith)) (λ l. rw (same k (omega arith)) (ap decides h))
+    (receive_at held (a ++ b) k (rw (length-append a b) (omega arith)) (λ l. rw (same k (omega arith)) (ap decides h))
     (λ j l. rw (same j (omega arith)) (none j l)))
 
 module _ (held a b : List ℕ) {e : ℕ} (waits : scan (held ++ a) ≡ undecided e) where
@@ -52,13 +52,13 @@ module _ (held a b : List ℕ) {e : ℕ} (waits : scan (held ++ a) ≡ undecided
       let same : held ++ (a ++ b) ≡ (held ++ a) ++ b = sym (append_assoc held a b) in
       rw (at_more held (a ++ b) (rw same (ap decides h)), got-it, same, length-append a b)
   joined_by (got_item k within h none got-it) =
-      let at-k = receive-at held (a ++ b) (length a + k) (rw (length-append a b) (omega arith))
+      let at-k = receive_at held (a ++ b) (length a + k) (rw (length-append a b) (omega arith))
       (λ l. rw (behind k) (ap decides h)) (λ j few. none_both k j (ltb j (length a)) refl few none) in
       rw (at-k, got-it, behind k)
 
-  pub joined-on : receive held (a ++ b) ≡ after (length a) (receive (held ++ a) b)
-  joined-on = joined_by (got (held ++ a) b)
+  pub joined_on : receive held (a ++ b) ≡ after (length a) (receive (held ++ a) b)
+  joined_on = joined_by (got (held ++ a) b)
 
   -- and so behind what is left of a
-  pub more-then : receive held (a ++ b) ≡ after (length a) (receive (drop e (held ++ a)) b)
-  more-then = joined-on ∙ ap (after (length a)) (left_receives (held ++ a) b waits)
+  pub more_then : receive held (a ++ b) ≡ after (length a) (receive (drop e (held ++ a)) b)
+  more_then = joined_on ∙ ap (after (length a)) (left_receives (held ++ a) b waits)

@@ -42,13 +42,13 @@ message_short = got.message_short
 -- handing a piece in, its untaken rest again, until *more*
 pub handed_more : (held piece : List ℕ) → (receive held piece).answer ≡ more
     → handed held piece ≡ record { items = []; held = (receive held piece).held }
-handed_more held piece h = rw (hand.handed-step held piece, h)
+handed_more held piece h = rw (hand.handed_step held piece, h)
 
 pub handed_item : (held piece : List ℕ) {i : _} → (receive held piece).answer ≡ item i
     → handed held piece
     ≡ before (found i (receive held piece).payload ∷ [])
     (handed (receive held piece).held (drop (receive held piece).taken piece))
-handed_item held piece h = rw (hand.handed-step held piece, h)
+handed_item held piece h = rw (hand.handed_step held piece, h)
 
 -- demand 2's cuts: any pieces, one after the other, give the same items in the same order and the same held bytes as the pieces joined
 pub cuts : (pieces : List (List ℕ)) → handed_each [] pieces ≡ handed [] (joined pieces)

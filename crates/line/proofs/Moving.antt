@@ -7,7 +7,7 @@ use native.Mathlib.Omega.{arith}
 use lib.ListN.{length, take, drop, get_or, set, length-append, length-drop}
 use lib.Seq.{take-suc, drop-cons, append_snoc, set_at, get_or-append-add, get_or-drop, length-take-le, take-nil}
 use Rattle.message.specs.Writing.{placed}
-use Rattle.message.proofs.Buffer.{length-placed, front}
+use Rattle.message.proofs.Buffer.{length_placed, front}
 
 -- a buffer whose first i bytes are those from a place on
 abbrev pub moved : ℕ → ℕ → List ℕ → List ℕ
@@ -22,7 +22,7 @@ module _ (from i : ℕ) (l : List ℕ) (within : from + i ≤ length l) where
   count = length-take-le i (drop from l) (rw (length-drop from l) (omega arith))
 
   pub length_moved : length (moved from i l) ≡ length l
-  length_moved = length-placed 0 (take i (drop from l)) l (omega (arith, count))
+  length_moved = length_placed 0 (take i (drop from l)) l (omega (arith, count))
 
   halves : moved from i l ≡ take i (drop from l) ++ drop i l
   halves = sym (front (take i (drop from l)) l) ∙ rw count
@@ -34,8 +34,8 @@ module _ (from i : ℕ) (l : List ℕ) (within : from + i ≤ length l) where
       let back : i + from ≡ from + i = omega arith in
       rw (halves, sum, get_or-append-add (take i (drop from l)) (drop i l) from d, get_or-drop i l from d, ← sum, back)
 
-  pub moved-next : from + i < length l → set (moved from i l) i (get_or (moved from i l) (from + i) 0) ≡ moved from (suc i) l
-  moved-next more =
+  pub moved_next : from + i < length l → set (moved from i l) i (get_or (moved from i l) (from + i) 0) ≡ moved from (suc i) l
+  moved_next more =
       let a = get_or l (from + i) 0 in
       let next : take (suc i) (drop from l) ≡ take i (drop from l) ++ (a ∷ []) =
       take-suc (drop from l) i 0 (rw (length-drop from l) (omega arith)) ∙ rw (get_or-drop from l i 0) in

@@ -2,7 +2,7 @@
 -- first piece this is a message in one.
 use Prim.Native.Nat.{ℕ, ◌+◌, ◌<◌}
 use mathlib.Core.Bool.{true, false, true≢false}
-use mathlib.Core.List.{List, [], ◌++◌, append-nil}
+use mathlib.Core.List.{List, [], ◌++◌, append_nil}
 use mathlib.Core.Path.{◌≡◌, refl, sym, ap, ◌∙◌}
 use native.Mathlib.Omega.{arith}
 use lib.ListN.{length, drop, length-append, drop_of_length-le}
@@ -11,10 +11,10 @@ use Rattle.message.specs.Bytes.{allowed, message, total}
 use Rattle.message.specs.Items as items
 use Rattle.message.specs.Items.{Scan, undecided, decided, dropped, scan, payload_of}
 use Rattle.message.proofs.Headers.{length_message}
-use Rattle.message.proofs.ReadWritten.{scan-message, payload-of-message}
+use Rattle.message.proofs.ReadWritten.{scan_message, payload_of_message}
 use Rattle.line.specs.Receiving.{decides, more, item, receive}
 use Rattle.line.proofs.Gives.{undecided_left}
-use Rattle.line.proofs.Joined.{later, scan-joined}
+use Rattle.line.proofs.Joined.{later, scan_joined}
 use Rattle.line.proofs.Reach.{scan_fewer}
 use Rattle.line.proofs.Taking.{at_more, at_item}
 
@@ -29,10 +29,10 @@ module _ (type seq : ℕ) (payload first second : List ℕ) (fine : allowed type
   lengths = sym (length-append first second) ∙ ap length cut ∙ length_message type seq payload
 
   both-decide : scan (first ++ second) ≡ decided (items.message type seq (length payload)) 0 (total (length payload))
-  both-decide = rw (cut, ← append-nil (message type seq payload)) (scan-message type seq payload [] fine)
+  both-decide = rw (cut, ← append_nil (message type seq payload)) (scan_message type seq payload [] fine)
 
   both_hold : payload_of (first ++ second) ≡ payload
-  both_hold = rw (cut, ← append-nil (message type seq payload)) (payload-of-message type seq payload [] fine)
+  both_hold = rw (cut, ← append_nil (message type seq payload)) (payload_of_message type seq payload [] fine)
 
   -- the second piece
   pub last_piece : receive first second
@@ -52,7 +52,7 @@ module _ (type seq : ℕ) (payload first second : List ℕ) (fine : allowed type
   module _ (some : 0 < length second) where
     waits : (s : Scan) → scan first ≡ s → scan first ≡ undecided 0
     waits (undecided e) h =
-        let none = dropped_none (scan (drop (dropped first) first ++ second)) (sym both-decide ∙ scan-joined first second) in
+        let none = dropped_none (scan (drop (dropped first) first ++ second)) (sym both-decide ∙ scan_joined first second) in
         h ∙ ap undecided ((undecided_left first h).0 ∙ none)
     waits (decided i d r) h =
         let all = lengths in absurd (true≢false (sym (ap decides h) ∙ scan_fewer first second both-decide (omega arith)))

@@ -13,8 +13,8 @@ use Rattle.message.specs.Items.{Item, damaged_header, forbidden, damaged_payload
 use Rattle.message.proofs.Dropping.{dropped_within}
 use Rattle.message.proofs.Found.{found_at}
 use Rattle.message.proofs.Headers.{allowed_short}
-use Rattle.message.proofs.More.{len_more, type-more, seq_more, sound_more, allowed-more, good_more, dropped_more, scan_more}
-use Rattle.message.proofs.Rules.{Applied, by_1, by_2, by_3, by_4, by_5, by_6, applied, rule-2, rule-3, rule-5, rule-6}
+use Rattle.message.proofs.More.{len_more, type_more, seq_more, sound_more, allowed_more, good_more, dropped_more, scan_more}
+use Rattle.message.proofs.Rules.{Applied, by_1, by_2, by_3, by_4, by_5, by_6, applied, rule_2, rule_3, rule_5, rule_6}
 use Rattle.line.specs.Receiving.{held_max, decides}
 use Rattle.line.proofs.Joined.{dropped_joined}
 
@@ -77,11 +77,11 @@ module _ (n : ℕ) (ps ws : List ℕ) where
   rules-less {i} s (by_2 long bad e) h enough =
       let same : i ≡ damaged_header = cc in
       let hold : header_length ≤ length ps = rw same at enough in
-      rw e (rule-2 n ps hold (sym (sound_more ps ws hold) ∙ bad))
+      rw e (rule_2 n ps hold (sym (sound_more ps ws hold) ∙ bad))
   rules-less {i} s (by_3 long sound bad e) h enough =
       let same : i ≡ forbidden = cc in
       let hold : header_length ≤ length ps = rw same at enough in
-      rw e (rule-3 n ps hold (sym (sound_more ps ws hold) ∙ sound) (sym (allowed-more ps ws hold) ∙ bad))
+      rw e (rule_3 n ps hold (sym (sound_more ps ws hold) ∙ sound) (sym (allowed_more ps ws hold) ∙ bad))
   rules-less s (by_4 long sound fine short e) h enough = let z : ◌≡◌ {A = ℕ} 0 1 = cc in absurd (omega arith)
   rules-less {i} s (by_5 long sound fine whole bad e) h enough =
       let same : i ≡ damaged_payload = cc in
@@ -90,7 +90,7 @@ module _ (n : ℕ) (ps ws : List ℕ) where
       let count = len_more ps ws hold in
       let whole : total (len_in ps) ≤ length ps = omega arith in
       rw e
-      (rule-5 n ps hold (sym (sound_more ps ws hold) ∙ sound) (sym (allowed-more ps ws hold) ∙ fine) whole
+      (rule_5 n ps hold (sym (sound_more ps ws hold) ∙ sound) (sym (allowed_more ps ws hold) ∙ fine) whole
       (sym (good_more ps ws hold whole) ∙ bad))
   rules-less {i} s (by_6 long sound fine whole good e) h enough =
       let same : i ≡ message (type_in (ps ++ ws)) (seq_in (ps ++ ws)) (len_in (ps ++ ws)) = cc in
@@ -98,8 +98,8 @@ module _ (n : ℕ) (ps ws : List ℕ) where
       let hold : header_length ≤ length ps = omega arith in
       let count = len_more ps ws hold in
       let whole : total (len_in ps) ≤ length ps = omega arith in
-      rw (e, type-more ps ws hold, seq_more ps ws hold, count)
-      (rule-6 n ps hold (sym (sound_more ps ws hold) ∙ sound) (sym (allowed-more ps ws hold) ∙ fine) whole
+      rw (e, type_more ps ws hold, seq_more ps ws hold, count)
+      (rule_6 n ps hold (sym (sound_more ps ws hold) ∙ sound) (sym (allowed_more ps ws hold) ∙ fine) whole
       (sym (good_more ps ws hold whole) ∙ good))
 
 -- dropping of the first bytes stops at the same place, where two of them are left

@@ -17,7 +17,7 @@ use Rattle.message.specs.declared.Item.TheVariants.{DamagedHeader, Forbidden, Da
 use Rattle.message.proofs.Dropping.{dropped_here, stands_left}
 use Rattle.message.proofs.Found.{message_at}
 use Rattle.message.proofs.Headers.{both}
-use Rattle.message.proofs.Rules.{Applied, by_1, by_2, by_3, by_4, by_5, by_6, applied, rule-1}
+use Rattle.message.proofs.Rules.{Applied, by_1, by_2, by_3, by_4, by_5, by_6, applied, rule_1}
 use Rattle.line.specs.Code.{breaks}
 use Rattle.line.specs.Promises.{Decides, part_of}
 use Rattle.line.specs.Receiving.{held_max, receive}
@@ -26,7 +26,7 @@ use Rattle.line.specs.declared.Place.{Place}
 use Rattle.line.specs.declared.Decision.{Decision}
 use Rattle.line.proofs.Gives.{undecided_left, front_placed}
 use Rattle.line.proofs.Reach.{reach_within}
-use Rattle.line.proofs.Taking.{at_item, receive-lone}
+use Rattle.line.proofs.Taking.{at_item, receive_lone}
 
 -- the same promise where the same is received
 pub decides_same : {d : Decision} {held other new exit : List ℕ} → receive held new ≡ receive other new → Decides d other new exit
@@ -39,7 +39,7 @@ unfolding stands
 lone [] new one some wrong = absurd (omega arith)
 lone (x ∷ y ∷ xs) new one some wrong = absurd (omega arith)
 lone (x ∷ []) [] one some wrong = absurd (omega arith)
-lone (x ∷ []) (y ∷ ys) one some wrong = receive-lone x y ys (rw (wrong, and-false (eqb x 170)))
+lone (x ∷ []) (y ∷ ys) one some wrong = receive_lone x y ys (rw (wrong, and-false (eqb x 170)))
 
 pub broken : (kept : ℕ) (held new : List ℕ) → length held ≡ kept → breaks kept new ≡ true → receive held new ≡ receive [] new
 broken kept held new size broke =
@@ -62,7 +62,7 @@ keeps_at (x ∷ y ∷ xs) ys here next = dropped_here (x ∷ y ∷ (xs ++ ys)) h
 
 short_scan : (xs : List ℕ) → dropped xs ≡ 0 → length xs < header_length → scan xs ≡ undecided 0
 unfolding scan
-short_scan xs front short = rw front (rule-1 0 xs short)
+short_scan xs front short = rw front (rule_1 0 xs short)
 
 -- an item of a header's eight bytes is no message, and its SYN is removed
 header_by : (n : ℕ) (xs : List ℕ) {i : _} {d r : ℕ} (s : Scan) → Applied n xs s → s ≡ decided i d r → length xs ≤ header_length → r
@@ -103,8 +103,8 @@ module _ (kept : ℕ) (held new : List ℕ) (size : length held ≡ kept) (some 
       (unbroken kept (length new) (eqb (get_or new 0 0) syn2) wrong (sym size ∙ one) n.1))
 
   -- too few for a header
-  pub start-waits : breaks kept new ≡ false → kept + length new < header_length → scan (held ++ new) ≡ undecided 0
-  start-waits wrong short =
+  pub start_waits : breaks kept new ≡ false → kept + length new < header_length → scan (held ++ new) ≡ undecided 0
+  start_waits wrong short =
       let front : dropped (held ++ new) ≡ 0 = rw (take-length new) at (keeps wrong (length new)) in
       short_scan (held ++ new) front (rw (length-append held new, size) short)
 
@@ -113,24 +113,24 @@ module _ (kept : ℕ) (held new : List ℕ) (size : length held ≡ kept) (some 
     abbrev pub whole : List ℕ
     whole = held ++ take missing new
 
-    pub size-whole : length whole ≡ header_length
-    size-whole = length-append held (take missing new) ∙ rw (length-take-le missing new enough, size) sum
+    pub size_whole : length whole ≡ header_length
+    size_whole = length-append held (take missing new) ∙ rw (length-take-le missing new enough, size) sum
 
-    pub header-waits : breaks kept new ≡ false → {n : ℕ} → scan whole ≡ undecided n → scan whole ≡ undecided 0
-    header-waits wrong h = h ∙ ap undecided ((undecided_left whole h).0 ∙ keeps wrong missing)
+    pub header_waits : breaks kept new ≡ false → {n : ℕ} → scan whole ≡ undecided n → scan whole ≡ undecided 0
+    header_waits wrong h = h ∙ ap undecided ((undecided_left whole h).0 ∙ keeps wrong missing)
 
-    pub gives-header : (d : Decision) (i : Item) (n r : ℕ) (array exit : List ℕ) → breaks kept new ≡ false
+    pub gives_header : (d : Decision) (i : Item) (n r : ℕ) (array exit : List ℕ) → breaks kept new ≡ false
         → scan whole ≡ decided (item_of i) n r → length array ≡ held_max → exit ≡ placed 0 (drop 2 whole) array
         → (d.answer ≡ One i) × (d.taken ≡ missing) × (d.start ≡ 0) × (d.count ≡ 6) → Decides d held new exit
-    gives-header d i n r array exit wrong h full stands said =
-        let two : r ≡ 2 = header_removes whole h size-whole in
+    gives_header d i n r array exit wrong h full stands said =
+        let two : r ≡ 2 = header_removes whole h size_whole in
         let w = reach_within whole h in
         let front : n ≡ 0 = w.0 ∙ keeps wrong missing in
-        let six : length (drop 2 whole) ≡ 6 = rw (length-drop 2 whole, size-whole) in
+        let six : length (drop 2 whole) ≡ 6 = rw (length-drop 2 whole, size_whole) in
         let kept : take 6 exit ≡ drop 2 whole = rw stands (rw six at (front_placed (drop 2 whole) array (omega (arith, six)))) in
-        let got = at_item held new missing {i = item_of i} {d = n} {r = r} enough h (omega (arith, w, size-whole)) in
+        let got = at_item held new missing {i = item_of i} {d = n} {r = r} enough h (omega (arith, w, size_whole)) in
         record {
           gives = rw
-              (said.0, said.1, said.2, said.3, got, h, kept, no_payload i whole n r h size-whole d.payload exit new, front, two);
+              (said.0, said.1, said.2, said.3, got, h, kept, no_payload i whole n r h size_whole d.payload exit new, front, two);
           within = omega (arith, said.2, said.3);
         }

@@ -1,7 +1,7 @@
 -- What a call gives, from what the six rules say of the bytes it looks at: the cases that code and laws cite.
 use Prim.Native.Nat.{ℕ, zero, suc, ◌+◌, ◌-◌, ◌≤◌, ◌<◌}
 use mathlib.Core.Bool.{true, false, true≢false}
-use mathlib.Core.List.{List, [], ◌∷◌, ◌++◌, append_assoc, append-nil}
+use mathlib.Core.List.{List, [], ◌∷◌, ◌++◌, append_assoc, append_nil}
 use mathlib.Core.Path.{◌≡◌, refl, sym, ap, ◌∙◌}
 use native.Mathlib.Nat.{zero-add}
 use native.Mathlib.Omega.{arith}
@@ -10,7 +10,7 @@ use lib.Seq.{take-add, take-length, length-take-le}
 use Rattle.message.specs.Bytes.{header_length}
 use Rattle.message.specs.Items.{Item, Scan, undecided, decided, stands, dropped, scan}
 use Rattle.message.proofs.More.{scan_more}
-use Rattle.message.proofs.Rules.{rule-1}
+use Rattle.message.proofs.Rules.{rule_1}
 use Rattle.line.specs.Receiving.{smallest, decides, taken, Received, received_from, receive}
 use Rattle.line.proofs.Joined.{decides_joined, received_joined, decides_behind, received_behind}
 use Rattle.line.proofs.Reach.{reach, reach_within, scan_less, scan_fewer}
@@ -45,9 +45,9 @@ module _ (held new : List ℕ) (k : ℕ) (within : k ≤ length new) (here : k <
       (λ j h. rw (zero-add j) (none j h))
       ∙ zero-add k
 
-  pub receive-at : receive held new ≡ received_from (held ++ take k new) k
+  pub receive_at : receive held new ≡ received_from (held ++ take k new) k
   unfolding receive
-  receive-at = rw taken_at
+  receive_at = rw taken_at
 
 -- a part of the new bytes, with those after it
 parts : (held new : List ℕ) (j k : ℕ) → j ≤ k → (held ++ take j new) ++ take (k - j) (drop j new) ≡ held ++ take k new
@@ -61,7 +61,7 @@ pub at_more : (held new : List ℕ) → decides (scan (held ++ new)) ≡ false �
     ≡ received_from (held ++ new) (length new)
 at_more held new none =
     rw (take-length new) at
-    (receive-at held new (length new) (omega arith) (λ h. absurd (omega arith))
+    (receive_at held new (length new) (omega arith) (λ h. absurd (omega arith))
     (λ j h. decides_less (held ++ take j new) (drop j new)
     (rw (append_assoc held (take j new) (drop j new), take-append-drop j new) none)))
 
@@ -70,21 +70,21 @@ pub at_last : (held new : List ℕ) → decides (scan (held ++ take (length new 
     → receive held new ≡ received_from (held ++ new) (length new)
 at_last held new none =
     rw (take-length new) at
-    (receive-at held new (length new) (omega arith) (λ h. absurd (omega arith))
+    (receive_at held new (length new) (omega arith) (λ h. absurd (omega arith))
     (λ j h. decides_less (held ++ take j new) (take (length new - 1 - j) (drop j new))
     (rw (parts held new j (length new - 1) (omega arith)) none)))
 
 -- the held bytes decide an item alone
 pub at_held : (held new : List ℕ) → decides (scan held) ≡ true → receive held new ≡ received_from held 0
 at_held held new here =
-    rw (append-nil held) at
-    (receive-at held new 0 (omega arith) (λ h. rw (append-nil held) here) (λ j h. absurd (omega arith)))
+    rw (append_nil held) at
+    (receive_at held new 0 (omega arith) (λ h. rw (append_nil held) here) (λ j h. absurd (omega arith)))
 
 -- an item that the last of k new bytes decides
 pub at_item : (held new : List ℕ) (k : ℕ) {i : Item} {d r : ℕ} → k ≤ length new → scan (held ++ take k new) ≡ decided i d r
     → length held + k ≡ d + reach i (drop d (held ++ take k new)) → receive held new ≡ received_from (held ++ take k new) k
 at_item held new k {i} {d} {r} within h last =
-    receive-at held new k within (λ more. ap decides h)
+    receive_at held new k within (λ more. ap decides h)
     (λ j few. scan_fewer (held ++ take j new) (take (k - j) (drop j new)) {i = i} {d = d} {r = r}
     (rw (parts held new j k (omega arith)) h)
     (rw (parts held new j k (omega arith), length-append held (take j new), length-take-le j new (omega arith)) (omega arith)))
@@ -98,7 +98,7 @@ at_new new k {i} {d} {r} h last =
     let size : length (take k new) ≡ k = length-take-le k new (omega arith) in
     let there : scan (take k new) ≡ decided i d r =
     scan_less (take k new) (drop k new) (rw cut h) (rw (cut, size) (omega arith)) in (
-      receive-at [] new k (omega arith) (λ more. ap decides there)
+      receive_at [] new k (omega arith) (λ more. ap decides there)
           (λ j few. scan_fewer (take j new) (drop j new) {i = i} {d = d} {r = r} (rw (take-append-drop j new) h)
           (rw (take-append-drop j new, length-take-le j new (omega arith)) (omega arith))),
       there,
@@ -113,7 +113,7 @@ taken_new new h = ap (λ (r : Received). r.taken) (at_new new _ h refl).0
 pub decides_short : (xs : List ℕ) → length xs < header_length → decides (scan xs) ≡ false
 unfolding scan
 decides_short xs short =
-    ap decides (rule-1 (dropped xs) (drop (dropped xs) xs) (rw (length-drop (dropped xs) xs) (omega arith)))
+    ap decides (rule_1 (dropped xs) (drop (dropped xs) xs) (rw (length-drop (dropped xs) xs) (omega arith)))
 
 -- a byte that is no SYN with the next one plays no part
 module _ (x y : ℕ) (ys : List ℕ) (no : stands (x ∷ y ∷ []) ≡ false) where
@@ -133,9 +133,9 @@ module _ (x y : ℕ) (ys : List ℕ) (no : stands (x ∷ y ∷ []) ≡ false) wh
   received-lone zero h = absurd (h refl)
   received-lone (suc k) h = received_behind x (y ∷ take k ys) (suc k) no
 
-  pub receive-lone : receive (x ∷ []) (y ∷ ys) ≡ receive [] (y ∷ ys)
+  pub receive_lone : receive (x ∷ []) (y ∷ ys) ≡ receive [] (y ∷ ys)
   unfolding receive taken
-  receive-lone =
+  receive_lone =
       rw (smallest_same (λ k. decides (scan (x ∷ take k (y ∷ ys)))) (λ k. decides (scan (take k (y ∷ ys)))) 0
       (length (y ∷ ys)) decides-lone)
       (received-lone (taken [] (y ∷ ys)) some)

@@ -10,8 +10,8 @@ use lib.Seq.{take-append-le, drop-append-le, drop-drop, get_or-drop}
 use Rattle.checksum.specs.Checksum.{checksum_of}
 use Rattle.message.specs.Bytes.{header_length, total, allowed, from_le16}
 use Rattle.message.specs.Items.{damaged_payload, message, Scan, undecided, decided, dropped, type_in, len_in, seq_in, fields_in, header_checksum_in, payload_in, payload_checksum_in, rules, scan}
-use Rattle.message.proofs.More.{len_more, type-more, seq_more, sound_more, allowed-more, dropped_more}
-use Rattle.message.proofs.Rules.{Applied, by_1, by_2, by_3, by_4, by_5, by_6, applied, rule-4, rule-5, rule-6}
+use Rattle.message.proofs.More.{len_more, type_more, seq_more, sound_more, allowed_more, dropped_more}
+use Rattle.message.proofs.Rules.{Applied, by_1, by_2, by_3, by_4, by_5, by_6, applied, rule_4, rule_5, rule_6}
 
 -- bytes that wait for the rest of a message
 pub record Waiting (xs : List ℕ) : Type 0 where
@@ -44,10 +44,10 @@ module _ (xs ys : List ℕ) (w : Waiting xs) (long : header_length ≤ length xs
   more-long = rw (length-append xs ys) (omega arith)
 
   -- more bytes, but not all of the message
-  pub still-waiting : length (xs ++ ys) < total (len_in xs) → scan (xs ++ ys) ≡ undecided 0
-  still-waiting short =
+  pub still_waiting : length (xs ++ ys) < total (len_in xs) → scan (xs ++ ys) ≡ undecided 0
+  still_waiting short =
       front_rules (xs ++ ys) front-more
-      ∙ rule-4 0 (xs ++ ys) more-long (sound_more xs ys long ∙ w.sound) (allowed-more xs ys long ∙ w.fine)
+      ∙ rule_4 0 (xs ++ ys) more-long (sound_more xs ys long ∙ w.sound) (allowed_more xs ys long ∙ w.fine)
       (rw (len_more xs ys long) short)
 
   -- the whole message
@@ -55,18 +55,18 @@ module _ (xs ys : List ℕ) (w : Waiting xs) (long : header_length ≤ length xs
     enough : total (len_in (xs ++ ys)) ≤ length (xs ++ ys)
     enough = rw (len_more xs ys long) (omega arith)
 
-    pub whole-damaged : eqb (payload_checksum_in (xs ++ ys)) (checksum_of (payload_in (xs ++ ys))) ≡ false
+    pub whole_damaged : eqb (payload_checksum_in (xs ++ ys)) (checksum_of (payload_in (xs ++ ys))) ≡ false
         → scan (xs ++ ys) ≡ decided damaged_payload 0 2
-    whole-damaged bad =
+    whole_damaged bad =
         front_rules (xs ++ ys) front-more
-        ∙ rule-5 0 (xs ++ ys) more-long (sound_more xs ys long ∙ w.sound) (allowed-more xs ys long ∙ w.fine) enough bad
+        ∙ rule_5 0 (xs ++ ys) more-long (sound_more xs ys long ∙ w.sound) (allowed_more xs ys long ∙ w.fine) enough bad
 
-    pub whole-message : eqb (payload_checksum_in (xs ++ ys)) (checksum_of (payload_in (xs ++ ys))) ≡ true
+    pub whole_message : eqb (payload_checksum_in (xs ++ ys)) (checksum_of (payload_in (xs ++ ys))) ≡ true
         → scan (xs ++ ys) ≡ decided (message (type_in xs) (seq_in xs) (len_in xs)) 0 (total (len_in xs))
-    whole-message good =
+    whole_message good =
         front_rules (xs ++ ys) front-more
-        ∙ rw (← type-more xs ys long, ← seq_more xs ys long, ← len_more xs ys long)
-        (rule-6 0 (xs ++ ys) more-long (sound_more xs ys long ∙ w.sound) (allowed-more xs ys long ∙ w.fine) enough good)
+        ∙ rw (← type_more xs ys long, ← seq_more xs ys long, ← len_more xs ys long)
+        (rule_6 0 (xs ++ ys) more-long (sound_more xs ys long ∙ w.sound) (allowed_more xs ys long ∙ w.fine) enough good)
 
 -- the bytes behind SYN, with anything after them: payload and checksum are read six bytes on
 module _ (ms ts : List ℕ) (n : ℕ) (size : length ms ≡ total n) where
@@ -78,17 +78,17 @@ module _ (ms ts : List ℕ) (n : ℕ) (size : length ms ≡ total n) where
   behind : length (drop header_length ms) ≡ n + 2
   behind = rw (length-drop header_length ms) (omega arith)
 
-  pub payload-behind : take n (drop 6 (drop 2 ms ++ ts)) ≡ take n (drop header_length ms)
-  payload-behind = rw from-6 (take-append-le n (drop header_length ms) ts (omega (arith, behind)))
+  pub payload_behind : take n (drop 6 (drop 2 ms ++ ts)) ≡ take n (drop header_length ms)
+  payload_behind = rw from-6 (take-append-le n (drop header_length ms) ts (omega (arith, behind)))
 
-  pub checksum-behind : n ≡ len_in ms
+  pub checksum_behind : n ≡ len_in ms
       → eqb (from_le16 (get_or (drop 6 (drop 2 ms ++ ts)) n 0) (get_or (drop 6 (drop 2 ms ++ ts)) (n + 1) 0))
       (checksum_of (take n (drop 6 (drop 2 ms ++ ts))))
       ≡ eqb (payload_checksum_in ms) (checksum_of (payload_in ms))
-  checksum-behind count =
+  checksum_behind count =
       let next : header_length + (n + 1) ≡ header_length + n + 1 = omega arith in
       rw (
-        payload-behind,
+        payload_behind,
         from-6,
         get_or-append (drop header_length ms) ts 0 n (omega (arith, behind)),
         get_or-append (drop header_length ms) ts 0 (n + 1) (omega (arith, behind)),

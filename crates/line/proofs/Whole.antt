@@ -15,7 +15,7 @@ use Rattle.message.specs.declared.Seq.{Seq}
 use Rattle.message.specs.declared.Item.TheVariants.{DamagedPayload, Message}
 use Rattle.message.proofs.Buffer.{front, lent_from, tail}
 use Rattle.message.proofs.Headers.{allowed_short}
-use Rattle.message.proofs.More.{len_more, type-more, seq_more}
+use Rattle.message.proofs.More.{len_more, type_more, seq_more}
 use Rattle.line.specs.Promises.{Decides}
 use Rattle.line.specs.Receiving.{held_max, received_from, receive}
 use Rattle.line.specs.declared.Answer.TheVariants.{One}
@@ -24,7 +24,7 @@ use Rattle.line.specs.declared.Decision.{Decision}
 use Rattle.line.proofs.Gives.{undecided_left}
 use Rattle.line.proofs.Reach.{reach}
 use Rattle.line.proofs.Taking.{at_item}
-use Rattle.line.proofs.Waiting.{Waiting, waiting, still-waiting, whole-damaged, whole-message, payload-behind, checksum-behind}
+use Rattle.line.proofs.Waiting.{Waiting, waiting, still_waiting, whole_damaged, whole_message, payload_behind, checksum_behind}
 
 module _ (kept : ℕ) (held new : List ℕ) (size : length held ≡ kept) (long : header_length ≤ kept + length new)
     (none : scan (held ++ take (header_length - kept) new) ≡ undecided 0) where
@@ -51,8 +51,8 @@ module _ (kept : ℕ) (held new : List ℕ) (size : length held ≡ kept) (long 
   waits = waiting there (sym (undecided_left there none).0) none long-there
 
   -- the message is longer than the held bytes, and not longer than the longest one
-  pub waits-for : (kept + first < total (len_in there)) × (total (len_in there) ≤ held_max + 1)
-  waits-for = omega (arith, size-there, waits.short, allowed_short (type_in there) (len_in there) waits.fine)
+  pub waits_for : (kept + first < total (len_in there)) × (total (len_in there) ≤ held_max + 1)
+  waits_for = omega (arith, size-there, waits.short, allowed_short (type_in there) (len_in there) waits.fine)
 
   with-more : (m : ℕ) → held ++ take (first + m) new ≡ there ++ take m rest
   with-more m =
@@ -63,10 +63,10 @@ module _ (kept : ℕ) (held new : List ℕ) (size : length held ≡ kept) (long 
       ap (λ (l : List ℕ). held ++ l) (sym (take-append-drop first new)) ∙ sym (append_assoc held (take first new) rest)
 
   -- not all of the message
-  pub all-waits : kept + length new < total (len_in there) → scan (held ++ new) ≡ undecided 0
-  all-waits short =
+  pub all_waits : kept + length new < total (len_in there) → scan (held ++ new) ≡ undecided 0
+  all_waits short =
       let sum : length (there ++ rest) ≡ kept + length new = rw (← with_all) (length-append held new ∙ rw size) in
-      rw with_all (still-waiting there rest waits long-there (omega arith))
+      rw with_all (still_waiting there rest waits long-there (omega arith))
 
   -- all of it, with need new bytes; without its SYN it stands at the front
   module _ (need : ℕ) (whole : kept + need ≡ total (len_in there)) (enough : need ≤ length new) (array exit : List ℕ)
@@ -79,7 +79,7 @@ module _ (kept : ℕ) (held new : List ℕ) (size : length held ≡ kept) (long 
 
     parts : ms ≡ there ++ take m rest
     parts =
-        let sum : first + m ≡ need = omega (arith, waits-for) in
+        let sum : first + m ≡ need = omega (arith, waits_for) in
         rw sum at (with-more m)
 
     size-ms : length ms ≡ total (len_in there)
@@ -92,7 +92,7 @@ module _ (kept : ℕ) (held new : List ℕ) (size : length held ≡ kept) (long 
     len-ms = rw parts (len_more there (take m rest) long-there)
 
     type-ms : type_in ms ≡ type_in there
-    type-ms = rw parts (type-more there (take m rest) long-there)
+    type-ms = rw parts (type_more there (take m rest) long-there)
 
     seq-ms : seq_in ms ≡ seq_in there
     seq-ms = rw parts (seq_more there (take m rest) long-there)
@@ -115,40 +115,40 @@ module _ (kept : ℕ) (held new : List ℕ) (size : length held ≡ kept) (long 
         ≡ eqb (payload_checksum_in ms) (checksum_of (payload_in ms))
     compared n len =
         rw (tail 6 exit, exit-is)
-        (checksum-behind ms (drop (length (drop 2 ms)) array) n (size-ms ∙ ap total (sym len)) (len ∙ sym len-ms))
+        (checksum_behind ms (drop (length (drop 2 ms)) array) n (size-ms ∙ ap total (sym len)) (len ∙ sym len-ms))
 
     item-is : {i : Item} {r : ℕ} → scan ms ≡ decided i 0 r → reach i ms ≡ total (len_in there) → receive held new
         ≡ received_from ms need
     item-is {i} {r} h reaches = at_item held new need {i = i} {d = 0} {r = r} enough h (rw reaches (omega arith))
 
-    pub gives-message : (d : Decision) (t n : ℕ) (q : Seq) → eqb (payload_checksum_in ms) (checksum_of (payload_in ms)) ≡ true
+    pub gives_message : (d : Decision) (t n : ℕ) (q : Seq) → eqb (payload_checksum_in ms) (checksum_of (payload_in ms)) ≡ true
         → (t ≡ get_or exit 0 0) × (q.0 ≡ get_or exit 3 0) × (n ≡ len_in there)
         → (d.answer ≡ One (Message t q n)) × (d.taken ≡ need) × (d.start ≡ 0) × (d.count ≡ 0) × (d.payload ≡ Held 6)
         → Decides d held new exit
     unfolding payload_of
-    gives-message d t n q good read said =
-        let h = rw (← parts) at (whole-message there (take m rest) waits long-there size-parts (rw (← parts) good)) in
+    gives_message d t n q good read said =
+        let h = rw (← parts) at (whole_message there (take m rest) waits long-there size-parts (rw (← parts) good)) in
         let type : t ≡ type_in there = read.0 ∙ byte-is 0 (omega arith) ∙ type-ms in
         let seq : q.0 ≡ seq_in there = read.1 ∙ byte-is 3 (omega arith) ∙ seq-ms in
         let none : drop (0 + total (len_in there)) ms ≡ [] =
         drop_of_length-le ms {i = 0 + total (len_in there)} (omega (arith, size-ms)) in
         let part : take (len_in there) (drop 6 exit) ≡ take (len_in there) (drop header_length ms) =
-        rw exit-is (payload-behind ms (drop (length (drop 2 ms)) array) (len_in there) size-ms) in
+        rw exit-is (payload_behind ms (drop (length (drop 2 ms)) array) (len_in there) size-ms) in
         record {
           gives = rw (said.0, said.1, said.2, said.3, said.4, item-is h refl, h, type, seq, read.2, part, none);
           within = omega (arith, said.2, said.3);
         }
 
-    pub gives-damaged : (d : Decision) → eqb (payload_checksum_in ms) (checksum_of (payload_in ms)) ≡ false
+    pub gives_damaged : (d : Decision) → eqb (payload_checksum_in ms) (checksum_of (payload_in ms)) ≡ false
         → (d.answer ≡ One DamagedPayload) × (d.taken ≡ need) × (d.start ≡ 0) × (d.count ≡ kept + need - 2)
         → Decides d held new exit
     unfolding payload_of
-    gives-damaged d bad said =
-        let h = rw (← parts) at (whole-damaged there (take m rest) waits long-there size-parts (rw (← parts) bad)) in
+    gives_damaged d bad said =
+        let h = rw (← parts) at (whole_damaged there (take m rest) waits long-there size-parts (rw (← parts) bad)) in
         let count : length (drop 2 ms) ≡ kept + need - 2 = rw (length-drop 2 ms, size-ms) (omega arith) in
         let kept : take (kept + need - 2) exit ≡ drop 2 ms =
         rw (exit-is, ← count) (take-append_seam (drop 2 ms) (drop (length (drop 2 ms)) array)) in
         record {
           gives = rw (said.0, said.1, said.2, said.3, item-is h (ap total len-ms), h, kept);
-          within = omega (arith, said.2, said.3, waits-for);
+          within = omega (arith, said.2, said.3, waits_for);
         }

@@ -24,4 +24,4 @@ lines_of_input room input = nothing_lost room [] (items_in [] input)
 -- a piece in two parts is listed as the whole: so what was read piece by piece is listed as all of it
 pub cuts_change_nothing : (room : ℕ) (start : Standing) (first second : List ℕ)
     → listed room start (first ++ second) ≡ listed room (listed room start first) second
-cuts_change_nothing = onward.listed-on
+cuts_change_nothing = onward.listed_on

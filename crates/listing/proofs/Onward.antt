@@ -35,9 +35,9 @@ items_on (found i payload ∷ a) b = ap (λ (l : List Item). i ∷ l) (items_on 
 
 -- a piece in two parts
 module _ (room : ℕ) (s : Standing) (a b : List ℕ) where
-  pub listed-on : listed room s (a ++ b) ≡ listed room (listed room s a) b
+  pub listed_on : listed room s (a ++ b) ≡ listed room (listed room s a) b
   unfolding listed
-  listed-on = rw (handed_joined s.held a b, items_on, waits_on)
+  listed_on = rw (handed_joined s.held a b, items_on, waits_on)
 
   pub written_on : writes_in room s (a ++ b) ≡ writes_in room s a ++ writes_in room (listed room s a) b
   unfolding listed writes_in
@@ -61,7 +61,7 @@ pub onward : (next : Next) {room size : ℕ} {start end : Standing} → size ≡
     → ListsSome next size start end → ListsAll next room end
 onward Read {room} same all some = record {
   input = all.input ++ some.piece;
-  lists = rw same at some.lists ∙ rw (listed-on room fresh all.input some.piece, ← all.lists);
+  lists = rw same at some.lists ∙ rw (listed_on room fresh all.input some.piece, ← all.lists);
 }
 onward End same all some = record { input = all.input; lists = some.lists ∙ all.lists }
 onward ReadFailed same all some = record { input = all.input; lists = some.lists ∙ all.lists }

@@ -68,10 +68,10 @@ module _ (r : Received) (held new exit : List ℕ) (p : Receives r held new exit
       module _ {start : Standing} {piece : List ℕ} (l : Left room start piece record { waiting = waiting; held = held } new)
           {s : Sheet} {size : ℕ} {buffer : List ℕ} (same_size : size ≡ room) (a : Adds s size waiting (item_of i) buffer) where
         -- the line has joined
-        pub left-next : s.fine ≡ true
+        pub left_next : s.fine ≡ true
             → Left room start piece record { waiting = take s.used buffer; held = take r.count exit }
             (take (length new - r.taken) (drop r.taken new))
-        left-next fine =
+        left_next fine =
             let joined : take s.used buffer ≡ waits room waiting (item_of i) = rw (fine, same_size) at a.joins in
             record {
               same = rw (joined, behind r.taken new) (sym listed_next ∙ l.same);
@@ -80,9 +80,9 @@ module _ (r : Received) (held new exit : List ℕ) (p : Receives r held new exit
             }
 
         -- the write that it wanted has failed
-        pub left-fails : line_room ≤ room → s.fine ≡ false
+        pub left_fails : line_room ≤ room → s.fine ≡ false
             → Fails room start piece record { waiting = take s.used buffer; held = take r.count exit }
-        left-fails large failed =
+        left_fails large failed =
             let why : (has_room room waiting ≡ false) × (s.used ≡ 0) = rw (failed, same_size) at a.joins in
             record {
               empty = rw why.1;

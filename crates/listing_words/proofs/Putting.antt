@@ -19,9 +19,9 @@ one_byte l at a within = let next : at + 1 ≡ suc at = omega arith in rw next (
 
 -- one, two or three digits
 module _ (n : ℕ) (first : List ℕ) where
-  pub one-digit : {x : List ℕ} → n < 10 → x ≡ first ++ (digit n ∷ []) → x ≡ first ++ decimal n
+  pub one_digit : {x : List ℕ} → n < 10 → x ≡ first ++ (digit n ∷ []) → x ≡ first ++ decimal n
   unfolding decimal
-  one-digit small h = rw (lt-ltb n 10 small) h
+  one_digit small h = rw (lt-ltb n 10 small) h
 
   pub two_digits : {x y : List ℕ} → 10 ≤ n → n < 100 → x ≡ first ++ (digit (n / 10) ∷ []) → y ≡ x ++ (digit (n % 10) ∷ []) → y
       ≡ first ++ decimal n
@@ -29,29 +29,29 @@ module _ (n : ℕ) (first : List ℕ) where
   two_digits large small h k =
       rw (le-ltb n 10 large, lt-ltb n 100 small) (behind first (digit (n / 10) ∷ []) (digit (n % 10) ∷ []) h k)
 
-  pub three-digits : {x y z : List ℕ} → 100 ≤ n → x ≡ first ++ (digit (n / 100) ∷ []) → y ≡ x ++ (digit (n / 10 % 10) ∷ []) → z
+  pub three_digits : {x y z : List ℕ} → 100 ≤ n → x ≡ first ++ (digit (n / 100) ∷ []) → y ≡ x ++ (digit (n / 10 % 10) ∷ []) → z
       ≡ y ++ (digit (n % 10) ∷ [])
       → z ≡ first ++ decimal n
   unfolding decimal
-  three-digits large h k l =
+  three_digits large h k l =
       rw (le-ltb n 10 (omega arith), le-ltb n 100 large)
       (behind first (digit (n / 100) ∷ digit (n / 10 % 10) ∷ []) (digit (n % 10) ∷ [])
       (behind first (digit (n / 100) ∷ []) (digit (n / 10 % 10) ∷ []) h k) l)
 
 -- the word of each TYPE
 module _ (type : ℕ) where
-  pub word-ack : type ≡ ack → word type ≡ ascii "ACK "
+  pub word_ack : type ≡ ack → word type ≡ ascii "ACK "
   unfolding word
-  word-ack is = rw (eq-eqb type ack is)
+  word_ack is = rw (eq-eqb type ack is)
 
-  pub word-nak : (type ≡ ack → ⊥) → type ≡ nak → word type ≡ ascii "NAK "
+  pub word_nak : (type ≡ ack → ⊥) → type ≡ nak → word type ≡ ascii "NAK "
   unfolding word
-  word-nak other is = rw (ne_eqb type ack other, eq-eqb type nak is)
+  word_nak other is = rw (ne_eqb type ack other, eq-eqb type nak is)
 
-  pub word-seq : (type ≡ ack → ⊥) → (type ≡ nak → ⊥) → type ≡ data_seq → word type ≡ ascii "SEQ "
+  pub word_seq : (type ≡ ack → ⊥) → (type ≡ nak → ⊥) → type ≡ data_seq → word type ≡ ascii "SEQ "
   unfolding word
-  word-seq other third is = rw (ne_eqb type ack other, ne_eqb type nak third, eq-eqb type data_seq is)
+  word_seq other third is = rw (ne_eqb type ack other, ne_eqb type nak third, eq-eqb type data_seq is)
 
-  pub word-nsq : (type ≡ ack → ⊥) → (type ≡ nak → ⊥) → (type ≡ data_seq → ⊥) → word type ≡ ascii "NSQ "
+  pub word_nsq : (type ≡ ack → ⊥) → (type ≡ nak → ⊥) → (type ≡ data_seq → ⊥) → word type ≡ ascii "NSQ "
   unfolding word
-  word-nsq other third fourth = rw (ne_eqb type ack other, ne_eqb type nak third, ne_eqb type data_seq fourth)
+  word_nsq other third fourth = rw (ne_eqb type ack other, ne_eqb type nak third, ne_eqb type data_seq fourth)

@@ -17,11 +17,11 @@ use Rattle.endpoint.specs.Places.{blank, at, Fits}
 use Rattle.endpoint.specs.declared.Request.{Request}
 use Rattle.endpoint.specs.declared.Requests.{Requests}
 use Rattle.endpoint.specs.declared.State.{State}
-use Rattle.endpoint.proofs.Rows.{blank_row, length-rows, rows_at}
+use Rattle.endpoint.proofs.Rows.{blank_row, length_rows, rows_at}
 use Rattle.endpoint.proofs.Listed.{length_requests, requests_at}
 use Rattle.live_changes.specs.Changing.{changed, Becomes}
 use Rattle.live_changes.specs.declared.Change.TheVariants.{Turn}
-use Rattle.live_changes.proofs.Stores.{OthersStay, length-filled, filled, held-stay, others_stay}
+use Rattle.live_changes.proofs.Stores.{OthersStay, length_filled, filled, held_stay, others_stay}
 use Rattle.live_changes.proofs.Listing.{
   short_set,
   short_take,
@@ -32,7 +32,7 @@ use Rattle.live_changes.proofs.Listing.{
   requests_set,
   requests_join,
 }
-use Rattle.live_changes.proofs.Removing.{removed, removed-next, removed-last}
+use Rattle.live_changes.proofs.Removing.{removed, removed_next, removed_last}
 
 -- a row of the same request in another state
 abbrev pub in_state : State → Request → Request
@@ -44,10 +44,10 @@ with_row live i q = record { rows = set live.rows i q; count = live.count }
 
 module _ (live : Requests) (full : length live.rows ≡ live_max) (fits : Fits live) where
   count : length (rows_of live) ≡ live.count
-  count = length-rows live full fits.few
+  count = length_rows live full fits.few
 
-  pub length-live : (s : List ℕ) → length (live_of live s) ≡ live.count
-  length-live s = length_requests 0 (rows_of live) s ∙ count
+  pub length_live : (s : List ℕ) → length (live_of live s) ≡ live.count
+  length_live s = length_requests 0 (rows_of live) s ∙ count
 
   -- the live request in a row, and that its data are not too long
   pub live_at : (s : List ℕ) (i : ℕ) → i < live.count
@@ -55,8 +55,8 @@ module _ (live : Requests) (full : length live.rows ≡ live_max) (fits : Fits l
   live_at s i less =
       rw (requests_at 0 i (rows_of live) s (omega (arith, count)), zero-add i, rows_at live full fits.few i less)
 
-  pub len-at : (i : ℕ) → i < live.count → (get_or live.rows i blank_row).len ≤ max_data
-  len-at i less = rw (rows_at live full fits.few i less) at (short_at (rows_of live) i fits.short)
+  pub len_at : (i : ℕ) → i < live.count → (get_or live.rows i blank_row).len ≤ max_data
+  len_at i less = rw (rows_at live full fits.few i less) at (short_at (rows_of live) i fits.short)
 
   -- another request in a row, whose room alone changes
   replaced : (row : ℕ) (q : Request) (s x : List ℕ) → row < live.count → q.len ≤ max_data → OthersStay row s x
@@ -77,8 +77,8 @@ module _ (live : Requests) (full : length live.rows ≡ live_max) (fits : Fits l
       → Becomes (with_row live row (in_state state (get_or live.rows row blank_row))) (changed (Turn row state) (live_of live s)) s s
   turned row state s less =
       let q = in_state state (get_or live.rows row blank_row) in
-      let split = set_split (live_of live s) row (request_of q (room_at s row q.len)) (omega (arith, length-live s)) in
-      rw (live_at s row less, ← split) (replaced row q s s less (len-at row less) (λ k n a b c. refl) refl)
+      let split = set_split (live_of live s) row (request_of q (room_at s row q.len)) (omega (arith, length_live s)) in
+      rw (live_at s row less, ← split) (replaced row q s s less (len_at row less) (λ k n a b c. refl) refl)
 
   -- the request of the next row, with its data
   moved_up : (row : ℕ) (s x : List ℕ) → suc row < live.count → length s ≡ store_length
@@ -88,12 +88,12 @@ module _ (live : Requests) (full : length live.rows ≡ live_max) (fits : Fits l
   moved_up row s x less long put =
       let q = get_or live.rows (suc row) blank_row in
       let m = room_at s (suc row) q.len in
-      let short = len-at (suc row) less in
+      let short = len_at (suc row) less in
       let size : length m ≡ q.len = length_part (room_place (suc row)) q.len s (omega arith) in
       let there : room_at x row q.len ≡ m = rw put (rw size at (filled row m s long (omega arith) (omega arith))) in
       rw (live_at s (suc row) less, ← there)
       (replaced row q s x (omega arith) short (rw put (others_stay row m s long (omega arith) (omega arith)))
-      (rw put (held-stay row m s long (omega arith) (omega arith))))
+      (rw put (held_stay row m s long (omega arith) (omega arith))))
 
   -- a request behind the others, with its data
   pub joined : (next : Requests) (q : Request) (m s x : List ℕ) → live.count < live_max → q.len ≡ length m → q.len ≤ max_data
@@ -110,7 +110,7 @@ module _ (live : Requests) (full : length live.rows ≡ live_max) (fits : Fits l
       record {
         lists = rw (rows, requests_join 0 (rows_of live) q x, others, last, there);
         fits = record { few = omega arith; short = rw rows (short_join (rows_of live) q fits.short short) };
-        holds = rw put (held-stay n m s long room (omega arith));
+        holds = rw put (held_stay n m s long room (omega arith));
       }
 
 -- the rows and the store while the requests after a row move up: without the one in row i they are what they were without the one
@@ -125,14 +125,14 @@ pub record MovedUp (live : Requests) (s : List ℕ) (row : ℕ) (next : Requests
   pub left : removed i (live_of next x) ≡ removed row (live_of live s)
 
 module _ (live : Requests) (s : List ℕ) (row : ℕ) where
-  pub none-moved : length live.rows ≡ live_max → Fits live → length s ≡ store_length → row < live.count
+  pub none_moved : length live.rows ≡ live_max → Fits live → length s ≡ store_length → row < live.count
       → MovedUp live s row live s row
-  none-moved full fits long less =
+  none_moved full fits long less =
       record { full = full; same = refl; long = long; within = less; fits = fits; holds = refl; left = refl }
 
   module _ (next : Requests) (x : List ℕ) (i : ℕ) (so_far : MovedUp live s row next x i) where
     long-so-far : length (live_of next x) ≡ live.count
-    long-so-far = length-live next so_far.full so_far.fits x ∙ so_far.same
+    long-so-far = length_live next so_far.full so_far.fits x ∙ so_far.same
 
     next-moved : (y : List ℕ) → suc i < live.count
         → y ≡ placed (room_place i) (room_at x (suc i) (get_or next.rows (suc i) blank_row).len) x
@@ -141,24 +141,24 @@ module _ (live : Requests) (s : List ℕ) (row : ℕ) where
         let q = get_or next.rows (suc i) blank_row in
         let m = room_at x (suc i) q.len in
         let more : suc i < next.count = omega arith in
-        let short = len-at next so_far.full so_far.fits (suc i) more in
+        let short = len_at next so_far.full so_far.fits (suc i) more in
         let size : length m ≤ max_data = simp length-take (omega arith) in
         let up = moved_up next so_far.full so_far.fits i x y more so_far.long put in
         record {
           full = length-set next.rows i q ∙ so_far.full;
           same = so_far.same;
-          long = rw put (length-filled i m x so_far.long (omega arith) size);
+          long = rw put (length_filled i m x so_far.long (omega arith) size);
           within = less;
           fits = up.fits;
           holds = up.holds ∙ so_far.holds;
-          left = rw up.lists (removed-next (live_of next x) i blank (omega (arith, long-so-far))) ∙ so_far.left;
+          left = rw up.lists (removed_next (live_of next x) i blank (omega (arith, long-so-far))) ∙ so_far.left;
         }
 
     -- one turn of the loop, in its terms
-    pub one-moved : (y : List ℕ) → suc i < live.count
+    pub one_moved : (y : List ℕ) → suc i < live.count
         → y ≡ placed (room_place i) (room_at x (suc i) (get_or next.rows (i + 1) blank_row).len) x
         → MovedUp live s row (with_row next i (get_or next.rows (i + 1) blank_row)) y (i + 1)
-    one-moved y less put = rw (add-one i) (next-moved y less (rw (add-one i) at put))
+    one_moved y less put = rw (add-one i) (next-moved y less (rw (add-one i) at put))
 
     pub all_moved : (then : Requests) → suc i ≡ live.count → then.rows ≡ next.rows → then.count ≡ i
         → Becomes then (removed row (live_of live s)) s x
@@ -166,7 +166,7 @@ module _ (live : Requests) (s : List ℕ) (row : ℕ) where
         let first : rows_of then ≡ take i (rows_of next) =
         rw (rows, count) (sym (take-take i next.count next.rows (omega arith))) in
         let end : removed i (live_of next x) ≡ take i (live_of next x) =
-        removed-last (live_of next x) i (long-so-far ∙ sym last) in
+        removed_last (live_of next x) i (long-so-far ∙ sym last) in
         record {
           lists = rw first (requests_take i 0 (rows_of next) x) ∙ sym end ∙ so_far.left;
           fits = record { few = omega arith; short = rw first (short_take i (rows_of next) so_far.fits.short) };

@@ -8,7 +8,7 @@ use native.Mathlib.Omega.{arith}
 use lib.ListN.{length, take, drop, get_or, set, length-drop, take-append-drop}
 use lib.Seq.{take-suc, set_split, get_or-drop}
 use Rattle.message.specs.Writing.{placed}
-use Rattle.message.proofs.Buffer.{length-placed, neighbours, beyond-placed}
+use Rattle.message.proofs.Buffer.{length_placed, neighbours, beyond_placed}
 use Rattle.line.proofs.Moving.{length_part}
 
 -- a buffer in which the i bytes from a place on stand at another as well
@@ -28,27 +28,27 @@ module _ (to from i : ℕ) (l : List ℕ) (up : to ≤ from) (within : from + i 
   count : length (take i (drop from l)) ≡ i
   count = length_part from i l within
 
-  pub length-pulled : length (pulled to from i l) ≡ length l
-  length-pulled = length-placed to (take i (drop from l)) l (omega (arith, count))
+  pub length_pulled : length (pulled to from i l) ≡ length l
+  length_pulled = length_placed to (take i (drop from l)) l (omega (arith, count))
 
   -- a byte that is not there yet
   pulled-at : (d : ℕ) → get_or (pulled to from i l) (from + i) d ≡ get_or l (from + i) d
   pulled-at d =
       let sum : to + length (take i (drop from l)) + (from - to) ≡ from + i = omega (arith, count) in
       let rest : drop (from + i) (pulled to from i l) ≡ drop (from + i) l =
-      rw sum at (beyond-placed to (take i (drop from l)) l (omega (arith, count)) (from - to)) in
+      rw sum at (beyond_placed to (take i (drop from l)) l (omega (arith, count)) (from - to)) in
       let first = get_or-drop (from + i) (pulled to from i l) 0 d in
       let second = get_or-drop (from + i) l 0 d in
       rw add-zero at (sym first ∙ ap (λ (x : List ℕ). get_or x 0 d) rest ∙ second)
 
   -- one byte more
-  pub pulled-next : from + i < length l
+  pub pulled_next : from + i < length l
       → set (pulled to from i l) (to + i) (get_or (pulled to from i l) (from + i) 0) ≡ pulled to from (suc i) l
-  pulled-next more =
+  pulled_next more =
       let a = get_or l (from + i) 0 in
       let m = take i (drop from l) in
       let next : take (suc i) (drop from l) ≡ m ++ (a ∷ []) =
       take-suc (drop from l) i 0 (rw (length-drop from l) (omega arith)) ∙ rw (get_or-drop from l i 0) in
       let joined : placed (to + i) (a ∷ []) (pulled to from i l) ≡ placed to (m ++ (a ∷ [])) l =
       rw count at (neighbours to m (a ∷ []) l (omega (arith, count))) in
-      rw (pulled-at 0, next) (stored (to + i) a (pulled to from i l) (omega (arith, length-pulled)) ∙ joined)
+      rw (pulled-at 0, next) (stored (to + i) a (pulled to from i l) (omega (arith, length_pulled)) ∙ joined)

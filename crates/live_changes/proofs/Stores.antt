@@ -10,7 +10,7 @@ use lib.ListN.{length, take, drop, length-take}
 use lib.Seq.{take_at, take-take}
 use borrow.Author.Tests.{ltb-true, ltb-false}
 use Rattle.message.specs.Writing.{placed}
-use Rattle.message.proofs.Buffer.{length-placed, from-placed, beyond-placed}
+use Rattle.message.proofs.Buffer.{length_placed, from_placed, beyond_placed}
 use Rattle.line.specs.Receiving.{held_max}
 use Rattle.line.proofs.Moving.{drop_take}
 use Rattle.command.specs.Payload.{max_data}
@@ -25,12 +25,12 @@ module _ (row : ℕ) (m l : List ℕ) (long : length l ≡ store_length) (is : r
   within : room_place row + length m ≤ length l
   within = omega arith
 
-  pub length-filled : length (placed (room_place row) m l) ≡ store_length
-  length-filled = length-placed (room_place row) m l within ∙ long
+  pub length_filled : length (placed (room_place row) m l) ≡ store_length
+  length_filled = length_placed (room_place row) m l within ∙ long
 
   pub filled : room_at (placed (room_place row) m l) row (length m) ≡ m
   filled =
-      ap (take (length m)) (from-placed (room_place row) m l within)
+      ap (take (length m)) (from_placed (room_place row) m l within)
       ∙ take_at m (drop (room_place row + length m) l) (length m) refl
 
   -- what stands before it
@@ -42,8 +42,8 @@ module _ (row : ℕ) (m l : List ℕ) (long : length l ≡ store_length) (is : r
       sym (take-take n (room_place row) (placed (room_place row) m l) less)
       ∙ ap (take n) front ∙ take-take n (room_place row) l less
 
-  pub held-stay : take held_max (placed (room_place row) m l) ≡ take held_max l
-  held-stay = earlier held_max (omega arith)
+  pub held_stay : take held_max (placed (room_place row) m l) ≡ take held_max l
+  held_stay = earlier held_max (omega arith)
 
   other : (k n : ℕ) (before : Bool) → ltb k row ≡ before → k ≢ row → n ≤ max_data
       → room_at (placed (room_place row) m l) k n ≡ room_at l k n
@@ -54,7 +54,7 @@ module _ (row : ℕ) (m l : List ℕ) (long : length l ≡ store_length) (is : r
   other k n false t differs few =
       let over : row ≤ k = ltb-false k row t in
       let sum : room_place row + length m + (room_place k - (room_place row + length m)) ≡ room_place k = omega arith in
-      ap (take n) (rw sum at (beyond-placed (room_place row) m l within (room_place k - (room_place row + length m))))
+      ap (take n) (rw sum at (beyond_placed (room_place row) m l within (room_place k - (room_place row + length m))))
 
   pub others_stay : OthersStay row l (placed (room_place row) m l)
   others_stay k n in_use differs few = other k n (ltb k row) refl differs few

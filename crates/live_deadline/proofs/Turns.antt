@@ -8,7 +8,7 @@ use Rattle.ledger.specs.Polling.{deadline_in, earlier, earliest}
 use Rattle.endpoint.specs.Endpoint.{state_of, rows_of}
 use Rattle.endpoint.specs.Malformed.{bare_of}
 use Rattle.endpoint.specs.declared.Requests.{Requests}
-use Rattle.endpoint.proofs.Rows.{rest, row, rows-turn, rows_end}
+use Rattle.endpoint.proofs.Rows.{rest, row, rows_turn, rows_end}
 use Rattle.live_deadline.specs.Deadlines.{left_of, IsInTime, NoneLate}
 use Rattle.live_deadline.proofs.Times.{earlier_none, earlier_assoc, left_earlier}
 
@@ -19,20 +19,20 @@ pub record Awaits (live : Requests) (clock i : ℕ) (best : Option ℕ) : Type 0
 
 module _ (live : Requests) (three : length live.rows ≡ live_max) (few : live.count ≤ live_max) (i : ℕ) where
   module _ (clock : ℕ) (best : Option ℕ) (awaits : Awaits live clock i best) where
-    pub times-in-time : i < live.count → IsInTime clock (state_of (row live i).state)
-    times-in-time less = (rw (rows-turn live three few i less) at awaits.none_late).0
+    pub times_in_time : i < live.count → IsInTime clock (state_of (row live i).state)
+    times_in_time less = (rw (rows_turn live three few i less) at awaits.none_late).0
 
-    pub times-on : i < live.count → (own : Option ℕ) → own ≡ left_of clock (deadline_in (state_of (row live i).state))
+    pub times_on : i < live.count → (own : Option ℕ) → own ≡ left_of clock (deadline_in (state_of (row live i).state))
         → (then : Option ℕ) → then ≡ earlier best own → Awaits live clock (i + 1) then
     unfolding earliest
-    times-on less own is-own then is-then = record {
+    times_on less own is-own then is-then = record {
       soonest =
           awaits.soonest
-          ∙ rw (rows-turn live three few i less, left_earlier clock (deadline_in (state_of (row live i).state)) (earliest (bare_of (rest live (i + 1)))), ← is-own)
+          ∙ rw (rows_turn live three few i less, left_earlier clock (deadline_in (state_of (row live i).state)) (earliest (bare_of (rest live (i + 1)))), ← is-own)
           (earlier_assoc best own _ ∙ rw (← is-then));
-      none_late = (rw (rows-turn live three few i less) at awaits.none_late).1;
+      none_late = (rw (rows_turn live three few i less) at awaits.none_late).1;
     }
 
-    pub times-end : live.count ≤ i → best ≡ left_of clock (earliest (bare_of (rows_of live)))
+    pub times_end : live.count ≤ i → best ≡ left_of clock (earliest (bare_of (rows_of live)))
     unfolding earliest
-    times-end less = sym (awaits.soonest ∙ rw (rows_end live three few i less) (earlier_none best))
+    times_end less = sym (awaits.soonest ∙ rw (rows_end live three few i less) (earlier_none best))

@@ -13,15 +13,15 @@ use Rattle.endpoint.proofs.Listed.{live_rows}
 
 -- it is this one where no more may be passed over or this one is not live, and otherwise comes after it
 module _ (r : ℕ) (live : List ledger.Request) (id : ℕ) where
-  pub free-here : (n : ℕ) → is_live id live ≡ false → first_free n r live id ≡ id
+  pub free_here : (n : ℕ) → is_live id live ≡ false → first_free n r live id ≡ id
   unfolding first_free
-  free-here zero h = refl
-  free-here (suc n) h = rw h
+  free_here zero h = refl
+  free_here (suc n) h = rw h
 
-  pub free-end : (n : ℕ) → n ≤ 0 → first_free n r live id ≡ id
+  pub free_end : (n : ℕ) → n ≤ 0 → first_free n r live id ≡ id
   unfolding first_free
-  free-end zero h = refl
-  free-end (suc n) h = absurd (omega arith)
+  free_end zero h = refl
+  free_end (suc n) h = absurd (omega arith)
 
   pub free_on : (n : ℕ) → 0 < n → is_live id live ≡ true → first_free n r live id ≡ first_free (n - 1) r live (id_after r id)
   unfolding first_free

@@ -24,13 +24,13 @@ use Rattle.live_search.proofs.Shown.{shown_provided}
 
 -- the first element that passes is in front, or behind one that does not
 module _ {A : Type 0} (test : A → Bool) where
-  pub where-here : (x : A) (xs : List A) → test x ≡ true → first_where test (x ∷ xs) ≡ 0
+  pub where_here : (x : A) (xs : List A) → test x ≡ true → first_where test (x ∷ xs) ≡ 0
   unfolding first_where
-  where-here x xs h = rw h
+  where_here x xs h = rw h
 
-  pub where-later : (x : A) (xs : List A) → test x ≡ false → first_where test (x ∷ xs) ≡ suc (first_where test xs)
+  pub where_later : (x : A) (xs : List A) → test x ≡ false → first_where test (x ∷ xs) ≡ suc (first_where test xs)
   unfolding first_where
-  where-later x xs h = rw h
+  where_later x xs h = rw h
 
 -- it is no further than the list
 front_within : (b : Bool) (n m : ℕ) → n ≤ m → if b 0 (suc n) ≤ suc m

@@ -19,7 +19,7 @@ use Rattle.endpoint.specs.declared.State.TheVariants.{Queued, InFlight, Waiting}
 use Rattle.endpoint.specs.declared.Request.{Request}
 use Rattle.endpoint.specs.declared.Requests.{Requests}
 use Rattle.endpoint.specs.contracts.State.{the_type}
-use Rattle.endpoint.proofs.Rows.{blank_row, length-rows, rows_at}
+use Rattle.endpoint.proofs.Rows.{blank_row, length_rows, rows_at}
 use Rattle.endpoint.proofs.Listed.{length_requests, requests_at}
 use Rattle.live_search.specs.Searching.{is_shown, shows, first_where}
 use Rattle.live_search.specs.declared.Query.{Query}
@@ -46,13 +46,13 @@ abbrev pub row_at : Requests → ℕ → Request
 row_at live i = get_or live.rows i blank_row
 
 module _ (live : Requests) (store : List ℕ) (full : length live.rows ≡ live_max) (few : live.count ≤ live_max) where
-  length-live : length (live_of live store) ≡ live.count
-  length-live = length_requests 0 (rows_of live) store ∙ length-rows live full few
+  length_live : length (live_of live store) ≡ live.count
+  length_live = length_requests 0 (rows_of live) store ∙ length_rows live full few
 
   pub at_row : (i : ℕ) → i < live.count → at i (live_of live store) ≡ request_of (row_at live i) (room_at store i (row_at live i).len)
   at_row i less =
       let place : 0 + i ≡ i = omega arith in
-      requests_at 0 i (rows_of live) store (omega (arith, length-rows live full few)) ∙ rw (rows_at live full few i less, place)
+      requests_at 0 i (rows_of live) store (omega (arith, length_rows live full few)) ∙ rw (rows_at live full few i less, place)
 
   module _ {A : Type 0} (f : ledger.Request → Option A) (query : Query) (asks : Asks f query) where
     first : first_where (λ q. is_shown (f q)) (live_of live store) ≡ first_where (λ q. shows query (request_of q [])) (rows_of live)
@@ -60,17 +60,17 @@ module _ (live : Requests) (store : List ℕ) (full : length live.rows ≡ live_
 
     none_here : (row : ℕ) → row ≡ first_where (λ q. shows query (request_of q [])) (rows_of live) → live.count ≤ row
         → oldest f (live_of live store) ≡ nobody
-    none_here row is none = oldest_none f (live_of live store) (omega (arith, first, length-live))
+    none_here row is none = oldest_none f (live_of live store) (omega (arith, first, length_live))
 
     one-here : (row : ℕ) → row ≡ first_where (λ q. shows query (request_of q [])) (rows_of live) → row < live.count
         → Finds f (live_of live store) row
     one-here row is less =
         let there = sym (is ∙ sym first) in
-        let s = found_shows f (live_of live store) row there (omega (arith, length-live)) in
+        let s = found_shows f (live_of live store) row there (omega (arith, length_live)) in
         record {
           what = s.what;
           shown = s.shown;
-          found = oldest_some f (live_of live store) row there (omega (arith, length-live)) s.shown;
+          found = oldest_some f (live_of live store) row there (omega (arith, length_live)) s.shown;
         }
 
 -- the same of any ledger with these live requests
@@ -82,8 +82,8 @@ module _ {A : Type 0} (f : ledger.Request → Option A) {live : Requests} {query
   pub one_found : row < live.count → Finds f them row
   one_found less = rw same (one-here live store s.full s.few f query asks row s.is less)
 
-  pub found-row : row < live.count → at row them ≡ request_of (row_at live row) (room_at store row (row_at live row).len)
-  found-row less = rw same (at_row live store s.full s.few row less)
+  pub found_row : row < live.count → at row them ≡ request_of (row_at live row) (room_at store row (row_at live row).len)
+  found_row less = rw same (at_row live store s.full s.few row less)
 
 -- a request with a frame is in flight
 pub flying_state : (s : ledger.State) {f : Frame} → frame_in s ≡ some f → s ≡ in_flight f

@@ -27,19 +27,19 @@ unqueued_sent (waiting since) h = refl
 
 -- each part of a match alone refuses
 module _ (c : Command) (q : Request) where
-  pub match-queued : is_shown (queued_in q.state) ≡ true → matches c q ≡ false
+  pub match_queued : is_shown (queued_in q.state) ≡ true → matches c q ≡ false
   unfolding matches
-  match-queued h = rw (queued_unsent q.state h)
+  match_queued h = rw (queued_unsent q.state h)
 
-  pub match-unwanted : not q.wanted ≡ true → matches c q ≡ false
+  pub match_unwanted : not q.wanted ≡ true → matches c q ≡ false
   unfolding matches
-  match-unwanted h = simp (not-true q.wanted h, and-false)
+  match_unwanted h = simp (not-true q.wanted h, and-false)
 
-  pub match-other-id : (q.id ≡ c.rqid → ⊥) → matches c q ≡ false
+  pub match_other_id : (q.id ≡ c.rqid → ⊥) → matches c q ≡ false
   unfolding matches
-  match-other-id h = simp (ne_eqb q.id c.rqid h, and-false)
+  match_other_id h = simp (ne_eqb q.id c.rqid h, and-false)
 
   -- and the fields decide where the others passed
-  pub match-fields : is_shown (queued_in q.state) ≡ false → not q.wanted ≡ false → q.id ≡ c.rqid → matches c q ≡ answers q.fields c.fields
+  pub match_fields : is_shown (queued_in q.state) ≡ false → not q.wanted ≡ false → q.id ≡ c.rqid → matches c q ≡ answers q.fields c.fields
   unfolding matches
-  match-fields sent wanted id = rw (unqueued_sent q.state sent, not-false q.wanted wanted, eq-eqb q.id c.rqid id)
+  match_fields sent wanted id = rw (unqueued_sent q.state sent, not-false q.wanted wanted, eq-eqb q.id c.rqid id)

@@ -76,8 +76,8 @@ left NoRoom p m l k = refl
 
 -- so the promise of a writer holds after a length and after a refusal
 module _ (r : Written) (place t q len : ℕ) (p l : List ℕ) (answers : answer_of r ≡ written (length l) place t q len) where
-  pub wrote-length : (n : ℕ) (exit : List ℕ) → r ≡ Length n → exit ≡ placed place (message t q p) l → Wrote r place t q len p l exit
-  wrote-length n exit told put = record { answers = answers; leaves = rw told put }
+  pub wrote_length : (n : ℕ) (exit : List ℕ) → r ≡ Length n → exit ≡ placed place (message t q p) l → Wrote r place t q len p l exit
+  wrote_length n exit told put = record { answers = answers; leaves = rw told put }
 
-  pub wrote-refusal : OneOf (1 ∷ 2 ∷ []) (tag_of the_type r) → Wrote r place t q len p l l
-  wrote-refusal other = record { answers = answers; leaves = left r place (message t q p) l other }
+  pub wrote_refusal : OneOf (1 ∷ 2 ∷ []) (tag_of the_type r) → Wrote r place t q len p l l
+  wrote_refusal other = record { answers = answers; leaves = left r place (message t q p) l other }

@@ -1,6 +1,6 @@
 -- Laws of bytes placed in a buffer: its length, what a loan from the middle leaves, and neighbours. Every writer cites them.
 use Prim.Native.Nat.{ℕ, ◌+◌, ◌-◌, ◌≤◌}
-use mathlib.Core.List.{List, [], ◌++◌, append_assoc, append-nil}
+use mathlib.Core.List.{List, [], ◌++◌, append_assoc, append_nil}
 use mathlib.Core.Path.{◌≡◌, refl, sym, ap, ◌∙◌}
 use native.Mathlib.Nat.{add-zero, zero-add}
 use native.Mathlib.Omega.{arith}
@@ -29,27 +29,27 @@ part_all n k l h = rw (tail k l, take_all n (drop k l) (simp length-drop (omega 
 
 -- the parts of a buffer in which bytes were placed
 module _ (a : ℕ) (m l : List ℕ) (fits : a + length m ≤ length l) where
-  pub length-placed : length (placed a m l) ≡ length l
+  pub length_placed : length (placed a m l) ≡ length l
   unfolding placed
-  length-placed = simp (length-append, length-take, length-drop) (omega arith)
+  length_placed = simp (length-append, length-take, length-drop) (omega arith)
 
-  pub from-placed : drop a (placed a m l) ≡ m ++ drop (a + length m) l
+  pub from_placed : drop a (placed a m l) ≡ m ++ drop (a + length m) l
   unfolding placed
-  from-placed = drop_at (take a l) (m ++ drop (a + length m) l) a (simp length-take (omega arith))
+  from_placed = drop_at (take a l) (m ++ drop (a + length m) l) a (simp length-take (omega arith))
 
-  pub after-placed : drop (a + length m) (placed a m l) ≡ drop (a + length m) l
-  after-placed =
-      sym (drop-drop (length m) a (placed a m l)) ∙ ap (drop (length m)) from-placed ∙ drop_at m (drop (a + length m) l)
+  pub after_placed : drop (a + length m) (placed a m l) ≡ drop (a + length m) l
+  after_placed =
+      sym (drop-drop (length m) a (placed a m l)) ∙ ap (drop (length m)) from_placed ∙ drop_at m (drop (a + length m) l)
       (length m) refl
 
-  pub through-placed : take (a + length m) (placed a m l) ≡ take a l ++ m
+  pub through_placed : take (a + length m) (placed a m l) ≡ take a l ++ m
   unfolding placed
-  through-placed =
+  through_placed =
       ap (take (a + length m)) (sym (append_assoc (take a l) m (drop (a + length m) l)))
       ∙ take_at (take a l ++ m) (drop (a + length m) l) (a + length m) (simp (length-append, length-take) (omega arith))
 
-  pub beyond-placed : (k : ℕ) → drop (a + length m + k) (placed a m l) ≡ drop (a + length m + k) l
-  beyond-placed k = sym (drop-drop k (a + length m) (placed a m l)) ∙ ap (drop k) after-placed ∙ drop-drop k (a + length m) l
+  pub beyond_placed : (k : ℕ) → drop (a + length m + k) (placed a m l) ≡ drop (a + length m + k) l
+  beyond_placed k = sym (drop-drop k (a + length m) (placed a m l)) ∙ ap (drop k) after_placed ∙ drop-drop k (a + length m) l
 
 -- bytes placed in what a caller lent from the middle on
 pub lent : (a i : ℕ) (m l : List ℕ) → a + i + length m ≤ length l
@@ -59,7 +59,7 @@ lent a i m l fits =
     let end : drop (length l - a) (drop a l) ≡ [] = drop_of_length-le (drop a l) {i = length l - a}
     (simp length-drop (omega arith)) in
     let sum : a + (i + length m) ≡ a + i + length m = omega arith in
-    simp (tail a l, end, append-nil, append_assoc, take-add a i l, drop-drop (i + length m) a l, sum)
+    simp (tail a l, end, append_nil, append_assoc, take-add a i l, drop-drop (i + length m) a l, sum)
 
 pub lent_front : (a : ℕ) (m l : List ℕ) → a + length m ≤ length l
     → given_back a l (placed 0 m (lent_from a l)) ≡ placed a m l
@@ -71,7 +71,7 @@ pub neighbours : (a : ℕ) (m n l : List ℕ) → a + length m + length n ≤ le
 unfolding placed
 neighbours a m n l fits =
     let sum : a + length (m ++ n) ≡ a + length m + length n = simp length-append (omega arith) in
-    rw (through-placed a m l (omega arith), beyond-placed a m l (omega arith) (length n), sum) (simp append_assoc)
+    rw (through_placed a m l (omega arith), beyond_placed a m l (omega arith) (length n), sum) (simp append_assoc)
 
 -- the same at the front of a buffer
 pub front : (m l : List ℕ) → m ++ drop (length m) l ≡ placed 0 m l
@@ -106,33 +106,33 @@ module _ (a k : ℕ) (m l x : List ℕ) (size : length m ≡ k) (first : x ≡ p
   lent-first fits = rw first (lent_front a m l (omega arith))
 
   length_first : a + k ≤ length l → length (given_back a l x) ≡ length l
-  length_first fits = ap length (lent-first fits) ∙ length-placed a m l (omega arith)
+  length_first fits = ap length (lent-first fits) ∙ length_placed a m l (omega arith)
 
   -- the second places bytes at its front
-  pub lent-twice : (n y : List ℕ) → a + k + length n ≤ length l
+  pub lent_twice : (n y : List ℕ) → a + k + length n ≤ length l
       → y ≡ placed 0 n (lent_from (a + k) (given_back a l x))
       → given_back (a + k) (given_back a l x) y ≡ placed a (m ++ n) l
-  lent-twice n y fits second =
+  lent_twice n y fits second =
       let same = length_first (omega arith) in
       let step : placed (a + k) n (placed a m l) ≡ placed a (m ++ n) l = rw size at (neighbours a m n l (omega arith)) in
       rw (second, lent_front (a + k) n (given_back a l x) (omega arith), lent-first (omega arith)) step
 
   -- the second is lent what stood there before both
-  pub lent-second : a + k ≤ length l
+  pub lent_second : a + k ≤ length l
       → lent_from (a + k) (given_back a l x) ≡ drop (a + k) l
-  lent-second fits =
-      let step : drop (a + k) (placed a m l) ≡ drop (a + k) l = rw size at (after-placed a m l (omega arith)) in
+  lent_second fits =
+      let step : drop (a + k) (placed a m l) ≡ drop (a + k) l = rw size at (after_placed a m l (omega arith)) in
       rw (tail (a + k) (given_back a l x), lent-first fits) step
 
   -- and places bytes after i of those
-  pub lent-after : (i : ℕ) (n y : List ℕ) → a + k + i + length n ≤ length l
+  pub lent_after : (i : ℕ) (n y : List ℕ) → a + k + i + length n ≤ length l
       → y ≡ placed i n (lent_from (a + k) (given_back a l x))
       → given_back (a + k) (given_back a l x) y
       ≡ placed a (m ++ (take i (drop (a + k) l) ++ n)) l
-  lent-after i n y fits second =
+  lent_after i n y fits second =
       let same = length_first (omega arith) in
-      let long : length (placed a m l) ≡ length l = length-placed a m l (omega arith) in
-      let kept : drop (a + k) (placed a m l) ≡ drop (a + k) l = rw size at (after-placed a m l (omega arith)) in
+      let long : length (placed a m l) ≡ length l = length_placed a m l (omega arith) in
+      let kept : drop (a + k) (placed a m l) ≡ drop (a + k) l = rw size at (after_placed a m l (omega arith)) in
       let count : length (take i (drop (a + k) l)) ≡ i = simp (length-take, length-drop) (omega arith) in
       let inner : placed (a + k + i) n (placed a m l) ≡ placed (a + k) (take i (drop (a + k) l) ++ n) (placed a m l) =
       rw kept at (after_standing (a + k) i n (placed a m l) (omega arith)) in

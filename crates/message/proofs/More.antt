@@ -12,7 +12,7 @@ use Rattle.message.specs.Bytes.{header_length, total, allowed}
 use Rattle.message.specs.Items.{Item, damaged_header, forbidden, damaged_payload, message, Scan, decided, stands, dropped, rules, scan, part_with, payload_of, type_in, len_in, seq_in, fields_in, header_checksum_in, payload_in, payload_checksum_in}
 use Rattle.message.proofs.Dropping.{dropped_within}
 use Rattle.message.proofs.Found.{found_at, message_at}
-use Rattle.message.proofs.Rules.{Applied, by_1, by_2, by_3, by_4, by_5, by_6, applied, rule-2, rule-3, rule-5, rule-6}
+use Rattle.message.proofs.Rules.{Applied, by_1, by_2, by_3, by_4, by_5, by_6, applied, rule_2, rule_3, rule_5, rule_6}
 
 -- dropping stops at the same place, where two bytes are left
 same_place : (b : Bool) (x : ℕ) (xs : List ℕ) {d e : ℕ} → 2 ≤ length (drop (if b 0 (suc d)) (x ∷ xs))
@@ -31,31 +31,31 @@ module _ (xs ys : List ℕ) (long : header_length ≤ length xs) where
   pub len_more : len_in (xs ++ ys) ≡ len_in xs
   len_more = rw (get_or-append xs ys 0 3 (omega arith), get_or-append xs ys 0 4 (omega arith))
 
-  pub type-more : type_in (xs ++ ys) ≡ type_in xs
-  type-more = get_or-append xs ys 0 2 (omega arith)
+  pub type_more : type_in (xs ++ ys) ≡ type_in xs
+  type_more = get_or-append xs ys 0 2 (omega arith)
 
   pub seq_more : seq_in (xs ++ ys) ≡ seq_in xs
   seq_more = get_or-append xs ys 0 5 (omega arith)
 
-  pub fields-more : fields_in (xs ++ ys) ≡ fields_in xs
-  fields-more = rw (drop-append-le 2 xs ys (omega arith)) (take-append-le 4 (drop 2 xs) ys (simp length-drop (omega arith)))
+  pub fields_more : fields_in (xs ++ ys) ≡ fields_in xs
+  fields_more = rw (drop-append-le 2 xs ys (omega arith)) (take-append-le 4 (drop 2 xs) ys (simp length-drop (omega arith)))
 
   pub sum_more : header_checksum_in (xs ++ ys) ≡ header_checksum_in xs
   sum_more = rw (get_or-append xs ys 0 6 (omega arith), get_or-append xs ys 0 7 (omega arith))
 
   pub sound_more : eqb (header_checksum_in (xs ++ ys)) (checksum_of (fields_in (xs ++ ys)))
       ≡ eqb (header_checksum_in xs) (checksum_of (fields_in xs))
-  sound_more = rw (sum_more, fields-more)
+  sound_more = rw (sum_more, fields_more)
 
-  pub allowed-more : allowed (type_in (xs ++ ys)) (len_in (xs ++ ys)) ≡ allowed (type_in xs) (len_in xs)
-  allowed-more = rw (type-more, len_more)
+  pub allowed_more : allowed (type_in (xs ++ ys)) (len_in (xs ++ ys)) ≡ allowed (type_in xs) (len_in xs)
+  allowed_more = rw (type_more, len_more)
 
-  pub long-more : header_length ≤ length (xs ++ ys)
-  long-more = rw (length-append xs ys) (omega arith)
+  pub long_more : header_length ≤ length (xs ++ ys)
+  long_more = rw (length-append xs ys) (omega arith)
 
   module _ (whole : total (len_in xs) ≤ length xs) where
-    pub whole-more : total (len_in (xs ++ ys)) ≤ length (xs ++ ys)
-    whole-more = rw (len_more, length-append xs ys) (omega arith)
+    pub whole_more : total (len_in (xs ++ ys)) ≤ length (xs ++ ys)
+    whole_more = rw (len_more, length-append xs ys) (omega arith)
 
     pub payload_more : payload_in (xs ++ ys) ≡ payload_in xs
     payload_more =
@@ -77,19 +77,19 @@ module _ (xs ys : List ℕ) (long : header_length ≤ length xs) where
 -- so the rules decide the same
 rules_more : (n : ℕ) (xs ys : List ℕ) {i : Item} {d r : ℕ} (s : Scan) → Applied n xs s → s ≡ decided i d r → rules n (xs ++ ys) ≡ s
 rules_more n xs ys s (by_1 short e) h = let z : ◌≡◌ {A = ℕ} 0 1 = cc in absurd (omega arith)
-rules_more n xs ys s (by_2 long bad e) h = rw e (rule-2 n (xs ++ ys) (long-more xs ys long) (sound_more xs ys long ∙ bad))
+rules_more n xs ys s (by_2 long bad e) h = rw e (rule_2 n (xs ++ ys) (long_more xs ys long) (sound_more xs ys long ∙ bad))
 rules_more n xs ys s (by_3 long sound bad e) h =
-    rw e (rule-3 n (xs ++ ys) (long-more xs ys long) (sound_more xs ys long ∙ sound) (allowed-more xs ys long ∙ bad))
+    rw e (rule_3 n (xs ++ ys) (long_more xs ys long) (sound_more xs ys long ∙ sound) (allowed_more xs ys long ∙ bad))
 rules_more n xs ys s (by_4 long sound fine short e) h = let z : ◌≡◌ {A = ℕ} 0 1 = cc in absurd (omega arith)
 rules_more n xs ys s (by_5 long sound fine whole bad e) h =
     rw e
-    (rule-5 n (xs ++ ys) (long-more xs ys long) (sound_more xs ys long ∙ sound) (allowed-more xs ys long ∙ fine)
-    (whole-more xs ys long whole)
+    (rule_5 n (xs ++ ys) (long_more xs ys long) (sound_more xs ys long ∙ sound) (allowed_more xs ys long ∙ fine)
+    (whole_more xs ys long whole)
     (good_more xs ys long whole ∙ bad))
 rules_more n xs ys s (by_6 long sound fine whole good e) h =
-    rw (e, ← type-more xs ys long, ← seq_more xs ys long, ← len_more xs ys long)
-    (rule-6 n (xs ++ ys) (long-more xs ys long) (sound_more xs ys long ∙ sound) (allowed-more xs ys long ∙ fine)
-    (whole-more xs ys long whole)
+    rw (e, ← type_more xs ys long, ← seq_more xs ys long, ← len_more xs ys long)
+    (rule_6 n (xs ++ ys) (long_more xs ys long) (sound_more xs ys long ∙ sound) (allowed_more xs ys long ∙ fine)
+    (whole_more xs ys long whole)
     (good_more xs ys long whole ∙ good))
 
 -- and `scan` with them

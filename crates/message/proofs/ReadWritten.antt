@@ -15,7 +15,7 @@ use Rattle.message.specs.Bytes.{le16, from_le16, fields, header, header_length, 
 use Rattle.message.specs.Items.{stands, scan, payload_of, decided, type_in, len_in, seq_in, fields_in, header_checksum_in, payload_in, payload_checksum_in}
 use Rattle.message.proofs.Dropping.{dropped_here}
 use Rattle.message.proofs.Headers.{length_message}
-use Rattle.message.proofs.Rules.{rule-6}
+use Rattle.message.proofs.Rules.{rule_6}
 
 -- the two bytes of a number give it back
 from_le16_law : (n : ℕ) → from_le16 (n % 256) (n / 256) ≡ n
@@ -68,16 +68,16 @@ module _ (t q : ℕ) (p rest : List ℕ) where
   seq-message = refl
 
   -- it is read as it was written, and takes exactly its bytes
-  pub scan-message : allowed t (length p) ≡ true
+  pub scan_message : allowed t (length p) ≡ true
       → scan (message t q p ++ rest) ≡ decided (items.message t q (length p)) 0 (total (length p))
   unfolding scan
-  scan-message fine =
+  scan_message fine =
       let long = long-message in
       rw (dropped_here (message t q p ++ rest) stands-message)
-      (rule-6 0 (message t q p ++ rest) (omega arith) header-message (rw (type-message, len-message) fine)
+      (rule_6 0 (message t q p ++ rest) (omega arith) header-message (rw (type-message, len-message) fine)
       (rw len-message long) checksum-message
       ∙ rw (type-message, seq-message, len-message))
 
-  pub payload-of-message : allowed t (length p) ≡ true → payload_of (message t q p ++ rest) ≡ p
+  pub payload_of_message : allowed t (length p) ≡ true → payload_of (message t q p ++ rest) ≡ p
   unfolding payload_of
-  payload-of-message fine = rw (scan-message fine) (rw (← len-message) payload-message)
+  payload_of_message fine = rw (scan_message fine) (rw (← len-message) payload-message)

@@ -14,10 +14,10 @@ use Rattle.message.specs.Promises.{answer_of, Wrote}
 use Rattle.message.specs.declared.Written.{Written}
 use Rattle.message.specs.declared.Written.TheVariants.{Length}
 use Rattle.message.proofs.Accepted.{passed, says_length}
-use Rattle.message.proofs.Buffer.{from-placed}
+use Rattle.message.proofs.Buffer.{from_placed}
 use Rattle.message.proofs.Found.{message_at}
 use Rattle.message.proofs.Headers.{writable_allowed, allowed_writable, length_message}
-use Rattle.message.proofs.ReadWritten.{scan-message, payload-of-message}
+use Rattle.message.proofs.ReadWritten.{scan_message, payload_of_message}
 use Rattle.message.proofs.WrittenRead.{written_read, payload_length}
 
 -- either writer: LEN is the payload's length
@@ -30,8 +30,8 @@ written_read_back {n} {place} {type} {seq} {len} {payload} {entry} {exit} wrote 
     let there = wrote.leaves ∙ refl in
     let fits : place + length (bytes.message type seq payload) ≤ length entry =
     rw (length_message type seq payload, size) p.room in
-    rw (there, from-placed place (bytes.message type seq payload) entry fits, p.count, ← size)
-    (scan-message type seq payload _ fine, payload-of-message type seq payload _ fine)
+    rw (there, from_placed place (bytes.message type seq payload) entry fits, p.count, ← size)
+    (scan_message type seq payload _ fine, payload_of_message type seq payload _ fine)
 
 pub write_then_read : {n place type seq : ℕ} {payload entry exit : List ℕ}
     → Wrote (Length n) place type seq (length payload) payload entry exit

@@ -11,34 +11,34 @@ use Rattle.message.specs.Bytes.{header_length, allowed, total}
 use Rattle.message.specs.Items.{Scan, damaged_header, forbidden, damaged_payload, message, undecided, found, rules, type_in, len_in, seq_in, fields_in, header_checksum_in, payload_in, payload_checksum_in}
 
 module _ (n : ℕ) (xs : List ℕ) where
-  pub rule-1 : length xs < header_length → rules n xs ≡ undecided n
+  pub rule_1 : length xs < header_length → rules n xs ≡ undecided n
   unfolding rules
-  rule-1 short = rw (lt-ltb (length xs) header_length short)
+  rule_1 short = rw (lt-ltb (length xs) header_length short)
 
   module _ (long : header_length ≤ length xs) where
-    pub rule-2 : eqb (header_checksum_in xs) (checksum_of (fields_in xs)) ≡ false → rules n xs ≡ found n damaged_header
+    pub rule_2 : eqb (header_checksum_in xs) (checksum_of (fields_in xs)) ≡ false → rules n xs ≡ found n damaged_header
     unfolding rules
-    rule-2 bad = rw (le-ltb (length xs) header_length long, bad)
+    rule_2 bad = rw (le-ltb (length xs) header_length long, bad)
 
     module _ (sound : eqb (header_checksum_in xs) (checksum_of (fields_in xs)) ≡ true) where
-      pub rule-3 : allowed (type_in xs) (len_in xs) ≡ false → rules n xs ≡ found n forbidden
+      pub rule_3 : allowed (type_in xs) (len_in xs) ≡ false → rules n xs ≡ found n forbidden
       unfolding rules
-      rule-3 bad = rw (le-ltb (length xs) header_length long, sound, bad)
+      rule_3 bad = rw (le-ltb (length xs) header_length long, sound, bad)
 
       module _ (fine : allowed (type_in xs) (len_in xs) ≡ true) where
-        pub rule-4 : length xs < total (len_in xs) → rules n xs ≡ undecided n
+        pub rule_4 : length xs < total (len_in xs) → rules n xs ≡ undecided n
         unfolding rules
-        rule-4 short = rw (le-ltb (length xs) header_length long, sound, fine, lt-ltb (length xs) (total (len_in xs)) short)
+        rule_4 short = rw (le-ltb (length xs) header_length long, sound, fine, lt-ltb (length xs) (total (len_in xs)) short)
 
-        pub rule-5 : total (len_in xs) ≤ length xs → eqb (payload_checksum_in xs) (checksum_of (payload_in xs)) ≡ false
+        pub rule_5 : total (len_in xs) ≤ length xs → eqb (payload_checksum_in xs) (checksum_of (payload_in xs)) ≡ false
             → rules n xs ≡ found n damaged_payload
         unfolding rules
-        rule-5 whole bad = rw (le-ltb (length xs) header_length long, sound, fine, le-ltb (length xs) (total (len_in xs)) whole, bad)
+        rule_5 whole bad = rw (le-ltb (length xs) header_length long, sound, fine, le-ltb (length xs) (total (len_in xs)) whole, bad)
 
-        pub rule-6 : total (len_in xs) ≤ length xs → eqb (payload_checksum_in xs) (checksum_of (payload_in xs)) ≡ true
+        pub rule_6 : total (len_in xs) ≤ length xs → eqb (payload_checksum_in xs) (checksum_of (payload_in xs)) ≡ true
             → rules n xs ≡ found n (message (type_in xs) (seq_in xs) (len_in xs))
         unfolding rules
-        rule-6 whole good =
+        rule_6 whole good =
             rw (le-ltb (length xs) header_length long, sound, fine, le-ltb (length xs) (total (len_in xs)) whole, good)
 
 -- which rule applied, with the tests that led to it
@@ -63,26 +63,26 @@ module _ (n : ℕ) (xs : List ℕ) where
       (fine : allowed (type_in xs) (len_in xs) ≡ true) where
     at-payload : (whole : total (len_in xs) ≤ length xs) (b : Bool) → eqb (payload_checksum_in xs) (checksum_of (payload_in xs)) ≡ b
         → Applied n xs (rules n xs)
-    at-payload whole true h = by_6 long sound fine whole h (rule-6 n xs long sound fine whole h)
-    at-payload whole false h = by_5 long sound fine whole h (rule-5 n xs long sound fine whole h)
+    at-payload whole true h = by_6 long sound fine whole h (rule_6 n xs long sound fine whole h)
+    at-payload whole false h = by_5 long sound fine whole h (rule_5 n xs long sound fine whole h)
 
     at_length : (b : Bool) → ltb (length xs) (total (len_in xs)) ≡ b → Applied n xs (rules n xs)
     at_length true h =
-        by_4 long sound fine (ltb-true _ _ h) (rule-4 n xs long sound fine (ltb-true _ _ h))
+        by_4 long sound fine (ltb-true _ _ h) (rule_4 n xs long sound fine (ltb-true _ _ h))
     at_length false h = at-payload (ltb-false _ _ h) (eqb (payload_checksum_in xs) (checksum_of (payload_in xs))) refl
 
   at-header : (long : header_length ≤ length xs) → eqb (header_checksum_in xs) (checksum_of (fields_in xs)) ≡ true → (b : Bool)
       → allowed (type_in xs) (len_in xs) ≡ b → Applied n xs (rules n xs)
   at-header long sound true h = at_length long sound h (ltb (length xs) (total (len_in xs))) refl
-  at-header long sound false h = by_3 long sound h (rule-3 n xs long sound h)
+  at-header long sound false h = by_3 long sound h (rule_3 n xs long sound h)
 
   at-checksum : header_length ≤ length xs → (b : Bool) → eqb (header_checksum_in xs) (checksum_of (fields_in xs)) ≡ b
       → Applied n xs (rules n xs)
   at-checksum long true h = at-header long h (allowed (type_in xs) (len_in xs)) refl
-  at-checksum long false h = by_2 long h (rule-2 n xs long h)
+  at-checksum long false h = by_2 long h (rule_2 n xs long h)
 
   at-start : (b : Bool) → ltb (length xs) header_length ≡ b → Applied n xs (rules n xs)
-  at-start true h = by_1 (ltb-true _ _ h) (rule-1 n xs (ltb-true _ _ h))
+  at-start true h = by_1 (ltb-true _ _ h) (rule_1 n xs (ltb-true _ _ h))
   at-start false h = at-checksum (ltb-false _ _ h) (eqb (header_checksum_in xs) (checksum_of (fields_in xs))) refl
 
   pub applied : Applied n xs (rules n xs)

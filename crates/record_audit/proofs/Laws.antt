@@ -4,7 +4,7 @@ use mathlib.Core.Option.{none}
 use mathlib.Core.Path.{◌≡◌}
 use Rattle.audit.specs.Audit.{audit}
 use Rattle.audit.specs.Rows.{Sound}
-use Rattle.audit.proofs.Laws.{sound-is-none}
+use Rattle.audit.proofs.Laws.{sound_is_none}
 use Rattle.endpoint.specs.Endpoint.{rows_of}
 use Rattle.endpoint.specs.Malformed.{malformed}
 use Rattle.endpoint.specs.declared.Endpoint.{Endpoint}
@@ -18,4 +18,4 @@ sound_ids e h = record { unreserved = above e.reserved (rows_of e.live) (facts h
 
 -- so the audit of the live requests, by the endpoint's own R, finds none
 pub sound_endpoint : (e : Endpoint) → malformed e ≡ false → audit e.reserved (ids_of (rows_of e.live)) ≡ none
-sound_endpoint e h = sound-is-none e.reserved (ids_of (rows_of e.live)) (sound_ids e h)
+sound_endpoint e h = sound_is_none e.reserved (ids_of (rows_of e.live)) (sound_ids e h)

@@ -9,7 +9,7 @@ use lib.ListN.{length, drop, get_or, length-map, drop_of_length-le, get_or-map}
 use lib.Seq.{drop-cons}
 use Rattle.audit.specs.Audit.{audit}
 use Rattle.audit.specs.Code.{Judged}
-use Rattle.audit.proofs.Walks.{Walked, walk-finds, walk-goes-on, walk_ends}
+use Rattle.audit.proofs.Walks.{Walked, walk_finds, walk_goes_on, walk_ends}
 use Rattle.endpoint.specs.declared.Request.{Request}
 use Rattle.endpoint.proofs.Rows.{blank_row}
 use Rattle.record_audit.specs.Records.{ids_of}
@@ -28,8 +28,8 @@ module _ (r : ℕ) (row : List Request) where
   as_many = sym (length-map row (λ (q : Request). q.id.0))
 
   module _ (table : List ℕ) (i : ℕ) (before : Before table i) where
-    pub record-ends : length row ≤ i → none ≡ audit r (ids_of row)
-    record-ends most =
+    pub record_ends : length row ≤ i → none ≡ audit r (ids_of row)
+    record_ends most =
         let over : length (ids_of row) ≤ i = subst (λ (n : ℕ). n ≤ i) as_many most in
         walk_ends r (ids_of row) table i (subst (Walked r (ids_of row) table i) (drop_of_length-le (ids_of row) over) before)
 
@@ -43,11 +43,11 @@ module _ (r : ℕ) (row : List Request) where
       walked : Walked r (ids_of row) table i (record_id row i ∷ drop (suc i) (ids_of row))
       walked = subst (Walked r (ids_of row) table i) split before
 
-      pub record-found : answer ≡ true → some i ≡ audit r (ids_of row)
-      record-found = walk-finds r (ids_of row) table i (record_id row i) (drop (suc i) (ids_of row)) walked after answer step
+      pub record_found : answer ≡ true → some i ≡ audit r (ids_of row)
+      record_found = walk_finds r (ids_of row) table i (record_id row i) (drop (suc i) (ids_of row)) walked after answer step
 
-      pub record-passed : answer ≡ false → Before after (i + 1)
-      record-passed sound =
+      pub record_passed : answer ≡ false → Before after (i + 1)
+      record_passed sound =
           let sum : suc i ≡ i + 1 = omega arith in
           subst (λ (k : ℕ). Walked r (ids_of row) after (i + 1) (drop k (ids_of row))) sum
-          (walk-goes-on r (ids_of row) table i (record_id row i) (drop (suc i) (ids_of row)) walked after answer step sound)
+          (walk_goes_on r (ids_of row) table i (record_id row i) (drop (suc i) (ids_of row)) walked after answer step sound)

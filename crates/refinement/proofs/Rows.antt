@@ -26,23 +26,23 @@ module _ (store : List ℕ) where
   same_some test i [] = refl
   same_some test i (q ∷ qs) = ap (test q.id.0 q.wanted (state_of q.state) ||◌) (same_some test (suc i) qs)
 
-  pub same-equal : (i : ℕ) (rows : List Request) → two_equal (requests_from i rows store) ≡ two_equal (bare_of rows)
+  pub same_equal : (i : ℕ) (rows : List Request) → two_equal (requests_from i rows store) ≡ two_equal (bare_of rows)
   unfolding requests_from two_equal
-  same-equal i [] = refl
-  same-equal i (q ∷ qs) = rw (live_rows q.id.0 qs (suc i) store, same-equal (suc i) qs)
+  same_equal i [] = refl
+  same_equal i (q ∷ qs) = rw (live_rows q.id.0 qs (suc i) store, same_equal (suc i) qs)
 
-  pub same-flights : (i : ℕ) (rows : List Request) → flights (requests_from i rows store) ≡ flights (bare_of rows)
+  pub same_flights : (i : ℕ) (rows : List Request) → flights (requests_from i rows store) ≡ flights (bare_of rows)
   unfolding requests_from flights
-  same-flights i [] = refl
-  same-flights i (q ∷ qs) = ap (flies_once (state_of q.state) +◌) (same-flights (suc i) qs)
+  same_flights i [] = refl
+  same_flights i (q ∷ qs) = ap (flies_once (state_of q.state) +◌) (same_flights (suc i) qs)
 
   -- the data of a request is no longer than its row says
-  pub short-data : (i : ℕ) (rows : List Request) → too_long rows ≡ false
+  pub short_data : (i : ℕ) (rows : List Request) → too_long rows ≡ false
       → some_of (λ q. ltb max_data (length q.bytes)) (requests_from i rows store) ≡ false
   unfolding requests_from some_of too_long
-  short-data i [] h = refl
-  short-data i (q ∷ qs) h =
+  short_data i [] h = refl
+  short_data i (q ∷ qs) h =
       let parts = neither (ltb max_data q.len) (too_long qs) h in
       let row : q.len ≤ max_data = ltb-false max_data q.len parts.0 in
       let bytes : length (room_at store i q.len) ≤ max_data = simp length-take (omega arith) in
-      rw (le-ltb max_data (length (room_at store i q.len)) bytes) (short-data (suc i) qs parts.1)
+      rw (le-ltb max_data (length (room_at store i q.len)) bytes) (short_data (suc i) qs parts.1)

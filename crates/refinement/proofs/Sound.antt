@@ -25,7 +25,7 @@ use Rattle.endpoint.specs.declared.Endpoint.{Endpoint}
 use Rattle.endpoint.proofs.Order.{facts, from_facts}
 use Rattle.endpoint.proofs.Listed.{length_requests}
 use Rattle.refinement.specs.Refusals.{refusal_of}
-use Rattle.refinement.proofs.Rows.{same_some, same-equal, same-flights, short-data}
+use Rattle.refinement.proofs.Rows.{same_some, same_equal, same_flights, short_data}
 
 -- where the endpoint is not malformed, neither is its ledger, whatever the store holds
 pub ledger_sound : (e : Endpoint) (store : List ℕ) → malformed e ≡ false → ledger.malformed live_max (ledger_of e store) ≡ false
@@ -42,10 +42,10 @@ ledger_sound e store h =
       le-ltb live_max (length live) few,
       same_some store (λ id w s. is_outside e.reserved id) 0 rows ∙ f.ids,
       f.next,
-      same-equal store 0 rows ∙ f.unequal,
-      le-ltb 1 (flights live) (rw (same-flights store 0 rows) flying),
+      same_equal store 0 rows ∙ f.unequal,
+      le-ltb 1 (flights live) (rw (same_flights store 0 rows) flying),
       same_some store (λ id w s. wrongly_often s) 0 rows ∙ f.often,
-      short-data store 0 rows f.short,
+      short_data store 0 rows f.short,
       same_some store (λ id w s. waits_for_nothing w s) 0 rows ∙ f.wants,
       same_some store (λ id w s. is_late e.clock s) 0 rows ∙ f.times,
       le-ltb held_max (length (take e.held store)) held,
@@ -63,8 +63,8 @@ endpoint_sound e store fits held h =
       few = fits.few;
       ids = sym (same_some store (λ id w s. is_outside e.reserved id) 0 rows) ∙ k.ids;
       next = k.next;
-      unequal = sym (same-equal store 0 rows) ∙ k.unequal;
-      flying = rw (same-flights store 0 rows) at flying;
+      unequal = sym (same_equal store 0 rows) ∙ k.unequal;
+      flying = rw (same_flights store 0 rows) at flying;
       often = sym (same_some store (λ id w s. wrongly_often s) 0 rows) ∙ k.often;
       short = fits.short;
       wants = sym (same_some store (λ id w s. waits_for_nothing w s) 0 rows) ∙ k.wants;
@@ -92,14 +92,14 @@ next_sound e next store exit c h passes same fits held =
 
 -- what a call on an endpoint that is not malformed may rely on: its limits, and that its rows fit; `Times.antt` has its times
 module _ (e : Endpoint) (h : malformed e ≡ false) where
-  pub few-of : e.live.count ≤ live_max
-  few-of = (facts {e = e} h).few
+  pub few_of : e.live.count ≤ live_max
+  few_of = (facts {e = e} h).few
 
-  pub reserved-of : e.reserved ≤ reserved_max
-  reserved-of = (facts {e = e} h).reserved
+  pub reserved_of : e.reserved ≤ reserved_max
+  reserved_of = (facts {e = e} h).reserved
 
   pub held_of : e.held ≤ held_max
   held_of = (facts {e = e} h).held
 
-  pub fits-of : Fits e.live
-  fits-of = record { few = (facts {e = e} h).few; short = (facts {e = e} h).short }
+  pub fits_of : Fits e.live
+  fits_of = record { few = (facts {e = e} h).few; short = (facts {e = e} h).short }

@@ -77,9 +77,9 @@ own_passed n b rest h = one_passed n b rest h
 
 -- the check of the first two lines, before a call's own
 module _ (r : Check) (e : Endpoint) (clock : ℕ) (own : List Line) (said : check_of r ≡ first_of (with_endpoint e clock [])) where
-  pub refused-check : {n : ℕ} → r ≡ Refused n → check_of r ≡ first_of (with_endpoint e clock own)
-  refused-check {n} h =
+  pub refused_check : {n : ℕ} → r ≡ Refused n → check_of r ≡ first_of (with_endpoint e clock own)
+  refused_check {n} h =
       let refused : check_of r ≡ some n = rw h in refused ∙ sym (refused_first e clock own n (sym said ∙ refused))
 
-  pub accepted-check : r ≡ Accepted → first_of (with_endpoint e clock own) ≡ first_of own
-  accepted-check h = let fine : check_of r ≡ none = rw h in passed_first e clock own (sym said ∙ fine)
+  pub accepted_check : r ≡ Accepted → first_of (with_endpoint e clock own) ≡ first_of own
+  accepted_check h = let fine : check_of r ≡ none = rw h in passed_first e clock own (sym said ∙ fine)

@@ -5,7 +5,7 @@ use mathlib.Core.Path.{◌≡◌, sym, subst}
 use native.Mathlib.Omega.{arith}
 use lib.ListN.{length, get_or, take, drop, length-drop, drop_of_length-le}
 use lib.Seq.{take_all, drop-cons}
-use Rattle.audit.proofs.Walks.{Walked, walk_starts, walk-finds, walk-goes-on, walk_ends}
+use Rattle.audit.proofs.Walks.{Walked, walk_starts, walk_finds, walk_goes_on, walk_ends}
 use Rattle.audit.proofs.audit_ids.Goals as goal
 
 -- the part of a row after its first ID
@@ -21,7 +21,7 @@ returns-then-is_unsound c =
     let a = c.args in
     let rest = l.rest.now in
     let walked = subst (Walked a.reserved a.ids.now l.seen l.i) (drop-cons rest 0 0 (omega arith)) l.invariant.1 in
-    walk-finds a.reserved a.ids.now l.seen l.i (get_or rest 0 0) (drop 1 rest) walked _ _ c.is_unsound.ensures c.if-is_unsound.true
+    walk_finds a.reserved a.ids.now l.seen l.i (get_or rest 0 0) (drop 1 rest) walked _ _ c.is_unsound.ensures c.if-is_unsound.true
 
 pub loop-rest-smaller : goal.loop-rest-smaller
 loop-rest-smaller c =
@@ -37,7 +37,7 @@ loop-rest-preserved c =
     let sum = l.invariant.0 in
     let one = length-drop 1 rest in
     let walked = subst (Walked a.reserved a.ids.now l.seen l.i) (drop-cons rest 0 0 (omega arith)) l.invariant.1 in
-    let next = walk-goes-on a.reserved a.ids.now l.seen l.i (get_or rest 0 0) (drop 1 rest) walked _ _ c.is_unsound.ensures c.if-is_unsound.false in
+    let next = walk_goes_on a.reserved a.ids.now l.seen l.i (get_or rest 0 0) (drop 1 rest) walked _ _ c.is_unsound.ensures c.if-is_unsound.false in
     subst (λ (k : List ℕ). (l.i + 1 + length k ≡ length a.ids.now) × Walked a.reserved a.ids.now c.is_unsound.new.seen (l.i + 1) k)
     (sym (tail rest))
     (omega arith, next)

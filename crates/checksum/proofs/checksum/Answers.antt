@@ -17,10 +17,10 @@ from_next c [] h = absurd (omega arith)
 from_next c (x ∷ xs) h = rw (take_all (length (x ∷ xs) - 1) xs (omega arith))
 
 -- where nothing is left, the register is the checksum
-from-none : (c : ℕ) (s : List ℕ) → length s ≤ 0 → checksum_from c s ≡ c
+from_none : (c : ℕ) (s : List ℕ) → length s ≤ 0 → checksum_from c s ≡ c
 unfolding checksum_from
-from-none c [] h = refl
-from-none c (x ∷ xs) h = absurd (omega arith)
+from_none c [] h = refl
+from_none c (x ∷ xs) h = absurd (omega arith)
 
 pub loop-rest-init : goal.loop-rest-init
 unfolding checksum_of
@@ -33,4 +33,4 @@ pub loop-rest-preserved : goal.loop-rest-preserved
 loop-rest-preserved c = rw c.with_byte-register.ensures (from_next c.loop-rest.register c.loop-rest.rest.now (omega arith) ∙ c.loop-rest.invariant)
 
 pub returns : goal.returns
-returns c = sym (from-none c.loop-rest.register c.loop-rest.rest.now (omega arith)) ∙ c.loop-rest.invariant
+returns c = sym (from_none c.loop-rest.register c.loop-rest.rest.now (omega arith)) ∙ c.loop-rest.invariant

@@ -4,7 +4,7 @@ use mathlib.Core.Path.{ap, ap₂, ◌∙◌}
 use lib.Bits.{bit_xor}
 use Rattle.checksum.specs.Checksum.{start}
 use Rattle.checksum_words.specs.Remainders.{remainder, two_words}
-use Rattle.checksum_words.proofs.Fronts.{start_low, front-law, front-by-word}
+use Rattle.checksum_words.proofs.Fronts.{start_low, front_law, front_by_word}
 use borrow.Author.Rules.{rules}
 use Rattle.checksum_words.proofs.front.Statement.{statement}
 use Rattle.checksum_words.proofs.front.Tie as tie
@@ -34,9 +34,9 @@ returns : tie.Need-returns
 returns c =
     let args = c.before.before.before.args in
     ap₂ (λ (h l : ℕ). remainder 128 (two_words h l))
-    (ap (λ (x : ℕ). bit_xor x (start * 2 ^ 48) / 2 ^ (56 - 8 * args.odd)) c.before.word.ensures ∙ front-by-word args.odd args.bytes.now (search rules) (search rules))
+    (ap (λ (x : ℕ). bit_xor x (start * 2 ^ 48) / 2 ^ (56 - 8 * args.odd)) c.before.word.ensures ∙ front_by_word args.odd args.bytes.now (search rules) (search rules))
     (ap (λ (x : ℕ). bit_xor x (start_low args.odd)) c.word2.ensures)
-    ∙ front-law args.odd args.bytes.now (search rules) (search rules)
+    ∙ front_law args.odd args.bytes.now (search rules) (search rules)
 
 pub front-spec : {M : Type 1} → statement M
 front-spec =

@@ -38,8 +38,8 @@ returns c =
     let asked = c.before.before.before.before.before.before.before.before.before.before.before.before.before.before.before.before.before.before.before.before.ask.ensures in
     let heard = c.before.before.before.before.before.before.before.before.before.before.before.before.before.before.hear.ensures in
     let asked-again = c.before.before.before.before.before.before.before.ask2.ensures in
-    let given-up = c.before.before.give-up.ensures in
-    exchanges _ _ _ _ _ _ _ _ _ _ _ _ _ opened.0 opened.1 _ _ _ asked _ _ _ _ heard _ _ _ asked-again _ _ _ given-up
+    let given_up = c.before.before.give-up.ensures in
+    exchanges _ _ _ _ _ _ _ _ _ _ _ _ _ opened.0 opened.1 _ _ _ asked _ _ _ _ heard _ _ _ asked-again _ _ _ given_up
 
 pub exchange-spec : {M : Type 1} → statement M
 exchange-spec =

@@ -2,7 +2,7 @@
 use mathlib.Core.Path.{refl}
 use borrow.Author.Rules.{rules}
 use Rattle.endpoint.specs.Endpoint.{ledger_of}
-use Rattle.decisions.proofs.Messages.{message-ack, message-nak, message-sequenced, message-other}
+use Rattle.decisions.proofs.Messages.{message_ack, message_nak, message_sequenced, message_other}
 use Rattle.decisions.proofs.judge.Statement.{statement}
 use Rattle.decisions.proofs.judge.Tie as tie
 
@@ -13,7 +13,7 @@ returns : tie.Need-returns
 returns c =
     let a = c.before.before.before.before.args in record {
       acts = λ store.
-          message-ack (ledger_of a.e store) a.clock a.kind a.seq.0 a.payload.now c.on-ack.result
+          message_ack (ledger_of a.e store) a.clock a.kind a.seq.0 a.payload.now c.on-ack.result
           c.before.if1.true
           (c.on-ack.ensures.0 (ledger_of a.e store) store a.payload.now refl refl);
       names = c.on-ack.ensures.1;
@@ -26,7 +26,7 @@ returns-2 : tie.Need-returns-2
 returns-2 c =
     let a = c.before.before.before.before.before.args in record {
       acts = λ store.
-          message-nak (ledger_of a.e store) a.clock a.kind a.seq.0 a.payload.now c.on-nak.result
+          message_nak (ledger_of a.e store) a.clock a.kind a.seq.0 a.payload.now c.on-nak.result
           c.before.if2.true
           (c.on-nak.ensures.0 (ledger_of a.e store) a.clock store a.payload.now refl refl);
       names = c.on-nak.ensures.1;
@@ -39,7 +39,7 @@ returns-3 : tie.Need-returns-3
 returns-3 c =
     let a = c.before.before.before.before.before.before.args in record {
       acts = λ store.
-          message-sequenced (ledger_of a.e store) a.clock a.kind a.seq.0 a.payload.now c.on-sequenced.result
+          message_sequenced (ledger_of a.e store) a.clock a.kind a.seq.0 a.payload.now c.on-sequenced.result
           c.before.if3.true
           (c.on-sequenced.ensures.0 (ledger_of a.e store) a.clock store refl refl refl);
       names = c.on-sequenced.ensures.1;
@@ -52,7 +52,7 @@ returns-4 : tie.Need-returns-4
 returns-4 c =
     let a = c.before.before.before.before.before.before.args in record {
       acts = λ store.
-          message-other (ledger_of a.e store) a.clock a.kind a.seq.0 a.payload.now c.on-data.result
+          message_other (ledger_of a.e store) a.clock a.kind a.seq.0 a.payload.now c.on-data.result
           c.before.before.before.if1.false
           c.before.before.if2.false
           c.before.if3.false

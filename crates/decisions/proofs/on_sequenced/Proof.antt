@@ -3,7 +3,7 @@
 use mathlib.Core.Path.{sym, ◌∙◌}
 use borrow.Author.Rules.{rules}
 use Rattle.decisions_verdict.proofs.Words.{only_names}
-use Rattle.decisions.proofs.Messages.{sequenced-repeat, sequenced-new}
+use Rattle.decisions.proofs.Messages.{sequenced_repeat, sequenced_new}
 use Rattle.decisions.proofs.on_sequenced.Statement.{statement}
 use Rattle.decisions.proofs.on_sequenced.Tie as tie
 
@@ -18,7 +18,7 @@ returns c =
     let a = c.before.before.before.before.args in
     let test = c.before.before.is-repeat.ensures in (
       λ l clock store same r last.
-          sequenced-repeat l clock a.seq.0 a.payload.now a.seen last (sym test ∙ c.before.if1.true) c.only.ensures,
+          sequenced_repeat l clock a.seq.0 a.payload.now a.seen last (sym test ∙ c.before.if1.true) c.only.ensures,
       only_names c.only.ensures a.live.count,
     )
 
@@ -33,7 +33,7 @@ returns-2 c =
     let a = c.before.before.before.before.before.args in
     let test = c.before.before.before.is-repeat.ensures in (
       λ l clock store same r last.
-          sequenced-new l clock a.seq.0 a.payload.now a.seen last (sym test ∙ c.before.before.if1.false)
+          sequenced_new l clock a.seq.0 a.payload.now a.seen last (sym test ∙ c.before.before.if1.false)
           c.before.after.result
           c.before.after.ensures
           c.on-data.result

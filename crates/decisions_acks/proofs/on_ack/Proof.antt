@@ -7,7 +7,7 @@ use Rattle.ledger.specs.Parts.{live_max}
 use Rattle.live_search.specs.declared.Query.TheVariants.{Acknowledged}
 use Rattle.live_search.proofs.Searched.{Searched}
 use Rattle.decisions_verdict.proofs.Words.{only_names}
-use Rattle.decisions_acks.proofs.Flights.{ack-stray, ack_waits, ack-ends}
+use Rattle.decisions_acks.proofs.Flights.{ack_stray, ack_waits, ack_ends}
 use Rattle.decisions_acks.proofs.on_ack.Statement.{statement}
 use Rattle.decisions_acks.proofs.on_ack.Tie as tie
 
@@ -29,7 +29,7 @@ returns c =
     let found = c.before.before in
     let a = found.before.args in (
       λ l store payload same last.
-          ack-stray l a.clock store payload a.t1 same a.seen last found.find.result a.seq (searched found)
+          ack_stray l a.clock store payload a.t1 same a.seen last found.find.result a.seq (searched found)
           c.before.if1.true
           c.only.ensures,
       only_names c.only.ensures a.t1.count,
@@ -57,7 +57,7 @@ returns-3 c =
     let found = c.before.before.before in
     let a = found.before.args in (
       λ l store payload same last.
-          ack-ends l a.clock store payload a.t1 same a.seen last found.find.result a.seq (searched found)
+          ack_ends l a.clock store payload a.t1 same a.seen last found.find.result a.seq (searched found)
           c.before.before.if1.false
           c.if2.false,
       omega arith,

@@ -7,7 +7,7 @@ use Rattle.ledger.specs.Parts.{live_max}
 use Rattle.live_search.specs.declared.Query.TheVariants.{Flying}
 use Rattle.live_search.proofs.Searched.{Searched, row_at, none_flying}
 use Rattle.decisions_verdict.proofs.Words.{only_names}
-use Rattle.decisions_acks.proofs.Flights.{nak-stray, nak-marks, flies-there}
+use Rattle.decisions_acks.proofs.Flights.{nak_stray, nak_marks, flies_there}
 use Rattle.decisions_acks.proofs.on_nak.Statement.{statement}
 use Rattle.decisions_acks.proofs.on_nak.Tie as tie
 
@@ -29,7 +29,7 @@ returns c =
     let found = c.before.before in
     let a = found.before.args in (
       λ l clock store payload same last.
-          nak-stray l clock store payload a.t1 same a.seen last found.find.result (searched found) c.before.if1.true
+          nak_stray l clock store payload a.t1 same a.seen last found.find.result (searched found) c.before.if1.true
           c.only.ensures,
       only_names c.only.ensures a.t1.count,
     )
@@ -53,7 +53,7 @@ returns-2 c =
       λ l clock store payload same last.
           absurd
           (none_flying (row_at a.t1 found.find.result).state c.before.match.keys2 _
-          (flies-there l clock store payload a.t1 same a.seen last found.find.result (searched found)
+          (flies_there l clock store payload a.t1 same a.seen last found.find.result (searched found)
           c.before.before.before.if1.false)),
       only_names c.only2.ensures a.t1.count,
     )
@@ -66,7 +66,7 @@ returns-3 c =
     let found = c.before.before.before.before.before.before in
     let a = found.before.args in (
       λ l clock store payload same last.
-          nak-marks l clock store payload a.t1 same a.seen last found.find.result (searched found)
+          nak_marks l clock store payload a.t1 same a.seen last found.find.result (searched found)
           c.before.before.before.before.before.if1.false
           c.before.before.state.given.1
           c.with-mark.result

@@ -8,7 +8,7 @@ use Rattle.ledger.specs.Promises.{command_of}
 use Rattle.ledger.specs.Receiving.{command_in}
 use Rattle.ledger.specs.declared.Command.{Command}
 use Rattle.decisions_verdict.proofs.Words.{only_names}
-use Rattle.decisions_data.proofs.Commands.{read_none, read-command, data-none, data-event, data-other}
+use Rattle.decisions_data.proofs.Commands.{read_none, read_command, data_none, data_event, data_other}
 use Rattle.decisions_data.proofs.on_data.Statement.{statement}
 use Rattle.decisions_data.proofs.on_data.Tie as tie
 
@@ -21,7 +21,7 @@ told : (c : tie.After-data)
     → let payload = c.before.before.before.before.before.before.args.payload.now in
     (is_command payload ≡ true) × (command_of (it c) ≡ command_in payload)
 told c =
-    read-command c.before.before.before.before.before.before.args.payload.now
+    read_command c.before.before.before.before.before.before.args.payload.now
     c.before.before.before.before.read.ensures
     (it c)
     c.before.before.reading.given.1
@@ -44,7 +44,7 @@ returns c =
     let a = c.before.before.before.before.before.args in
     let read = c.before.before.before.read.ensures in (
       λ l clock store same r.
-          data-none l clock a.payload.now a.seen (read_none a.payload.now read c.before.enum_told.given.1)
+          data_none l clock a.payload.now a.seen (read_none a.payload.now read c.before.enum_told.given.1)
           c.only.ensures,
       only_names c.only.ensures a.live.count,
     )
@@ -63,7 +63,7 @@ returns-2 c = (
   λ l clock store same r.
       let s = c.before.before.before in
       let a = s.before.before.before.before.before.before.args in
-      data-event l clock a.payload.now a.seen (told s) r
+      data_event l clock a.payload.now a.seen (told s) r
       (sym c.before.before.is-event.ensures ∙ c.before.if1.true)
       c.only2.ensures,
   only_names c.only2.ensures c.before.before.before.before.before.before.before.before.before.args.live.count,
@@ -77,7 +77,7 @@ returns-3 c = (
   λ l clock store same r.
       let s = c.before.before.before in
       let a = s.before.before.before.before.before.before.args in
-      data-other l clock a.payload.now a.seen (told s) r
+      data_other l clock a.payload.now a.seen (told s) r
       (sym c.before.before.is-event.ensures ∙ c.before.if1.false)
       c.on-response.result
       (c.on-response.ensures.0 l clock store a.payload.now same),

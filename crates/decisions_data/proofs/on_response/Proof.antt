@@ -7,7 +7,7 @@ use Rattle.ledger.specs.Parts.{live_max}
 use Rattle.live_search.specs.declared.Query.TheVariants.{Answered}
 use Rattle.live_search.proofs.Searched.{Searched}
 use Rattle.decisions_verdict.proofs.Words.{only_names}
-use Rattle.decisions_data.proofs.Commands.{response-unmatched, response-ends}
+use Rattle.decisions_data.proofs.Commands.{response_unmatched, response_ends}
 use Rattle.decisions_data.proofs.on_response.Statement.{statement}
 use Rattle.decisions_data.proofs.on_response.Tie as tie
 
@@ -30,7 +30,7 @@ returns c =
     let found = c.before.before.before in
     let a = found.before.before.before.args in (
       λ l clock store payload same.
-          response-unmatched l clock store payload a.live same a.seen a.it found.find.result (searched found)
+          response_unmatched l clock store payload a.live same a.seen a.it found.find.result (searched found)
           c.before.if1.true
           c.only.ensures,
       only_names c.only.ensures a.live.count,
@@ -41,7 +41,7 @@ returns-2 c =
     let found = c.before.before in
     let a = found.before.before.before.args in (
       λ l clock store payload same.
-          response-ends l clock store payload a.live same a.seen a.it found.find.result (searched found) c.if1.false,
+          response_ends l clock store payload a.live same a.seen a.it found.find.result (searched found) c.if1.false,
       omega arith,
     )
 

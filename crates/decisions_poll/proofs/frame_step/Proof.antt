@@ -5,7 +5,7 @@ use borrow.Author.Tests.{not-true, not-false}
 use Rattle.link.specs.Promises.{frame_of}
 use Rattle.link.proofs.Laws.{may_go_again_law}
 use Rattle.live_search.proofs.Searched.{none_flying}
-use Rattle.decisions_poll.proofs.Stepped.{not_due, goes_again, given-up}
+use Rattle.decisions_poll.proofs.Stepped.{not_due, goes_again, given_up}
 use Rattle.decisions_poll.proofs.frame_step.Statement.{statement}
 use Rattle.decisions_poll.proofs.frame_step.Tie as tie
 
@@ -55,7 +55,7 @@ returns-4 c =
     let due = c.before.before.before.is-due.ensures in
     let more = c.before.may_go_again_law.ensures in (
       λ l f is.
-          given-up l a.clock a.row state.1 is (sym due ∙ not-false _ c.before.before.if1.false)
+          given_up l a.clock a.row state.1 is (sym due ∙ not-false _ c.before.before.if1.false)
           (sym more ∙ c.if2.false),
       λ n less. less,
     )

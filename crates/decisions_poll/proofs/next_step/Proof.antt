@@ -6,7 +6,7 @@ use borrow.Author.Rules.{rules}
 use Rattle.ledger.specs.Parts.{live_max}
 use Rattle.live_search.specs.declared.Query.TheVariants.{Overdue, Flying, Queued}
 use Rattle.live_search.proofs.Searched.{Searched}
-use Rattle.decisions_poll.proofs.Stepped.{steps-overdue, steps-frame, steps_first, steps-quiet}
+use Rattle.decisions_poll.proofs.Stepped.{steps_overdue, steps_frame, steps_first, steps_quiet}
 use Rattle.decisions_poll.proofs.next_step.Statement.{statement}
 use Rattle.decisions_poll.proofs.next_step.Tie as tie
 
@@ -31,7 +31,7 @@ oldest-flying-requires : tie.Need-oldest-flying-requires
 oldest-flying-requires c κs = search rules
 
 returns : tie.Need-returns
-returns c = steps-overdue (overdue c.before.before) (omega arith)
+returns c = steps_overdue (overdue c.before.before) (omega arith)
 
 mul-q : tie.Need-overflow-mul-q
 mul-q c = search rules
@@ -45,7 +45,7 @@ frame-step-requires c κs = search rules
 returns-2 : tie.Need-returns-2
 returns-2 c =
     let found = c.before.before.before.before in
-    steps-frame (overdue found.before) (omega arith) (flying found) (omega arith) c.frame_step.result
+    steps_frame (overdue found.before) (omega arith) (flying found) (omega arith) c.frame_step.result
     c.frame_step.ensures
 
 oldest-queued-requires : tie.Need-oldest-queued-requires
@@ -59,7 +59,7 @@ returns-3 c =
 returns-4 : tie.Need-returns-4
 returns-4 c =
     let found = c.before.before.before.before in
-    steps-quiet (overdue found.before) (omega arith) (flying found) (omega arith) (queued c.before) (omega arith)
+    steps_quiet (overdue found.before) (omega arith) (flying found) (omega arith) (queued c.before) (omega arith)
 
 pub next-step-spec : {M : Type 1} → statement M
 next-step-spec =

@@ -1,7 +1,7 @@
 -- `host_acting::act` meets its contract: the bytes are settled, and the change is carried out.
 use native.Mathlib.Omega.{arith}
 use borrow.Author.Rules.{rules}
-use Rattle.refinement.proofs.Sound.{few-of, fits-of}
+use Rattle.refinement.proofs.Sound.{few_of, fits_of}
 use Rattle.host_acting.proofs.Acting.{Settled, acted}
 use Rattle.host_acting.proofs.act.Statement.{statement}
 use Rattle.host_acting.proofs.act.Tie as tie
@@ -11,12 +11,12 @@ settle-in-requires c κs = search rules
 
 ending-of-requires : tie.Need-ending-of-requires
 ending-of-requires c κs =
-    let s = c.before.before.before.before.before.before in (few-of s.args.e s.requires.0.0.sound, s.requires.2)
+    let s = c.before.before.before.before.before.before in (few_of s.args.e s.requires.0.0.sound, s.requires.2)
 
 carry-out-requires : tie.Need-carry-out-requires
 carry-out-requires c κs =
     let s = c.before.before.before.before.before.before.before.before in
-    (omega arith, fits-of s.args.e s.requires.0.0.sound, s.requires.2)
+    (omega arith, fits_of s.args.e s.requires.0.0.sound, s.requires.2)
 
 after-requires : tie.Need-after-requires
 after-requires c κs = search rules

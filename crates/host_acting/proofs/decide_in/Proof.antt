@@ -2,7 +2,7 @@
 use mathlib.Core.Path.{sym}
 use native.Mathlib.Omega.{arith}
 use borrow.Author.Rules.{rules}
-use Rattle.host_answers.proofs.Held.{length_front, decided-in}
+use Rattle.host_answers.proofs.Held.{length_front, decided_in}
 use Rattle.host_acting.proofs.decide_in.Statement.{statement}
 use Rattle.host_acting.proofs.decide_in.Tie as tie
 
@@ -24,7 +24,7 @@ returns : tie.Need-returns
 returns c =
     let s = c.before.before.before.before.before.before in
     let store = s.args.store.now in
-    decided-in _ store (omega (arith, length_front store s.requires.0)) _ s.args.held s.args.bytes.now s.requires.1
+    decided_in _ store (omega (arith, length_front store s.requires.0)) _ s.args.held s.args.bytes.now s.requires.1
     c.before.before.decide.ensures
 
 pub decide-in-spec : {M : Type 1} → statement M

@@ -4,7 +4,7 @@ use native.Mathlib.Omega.{arith}
 use lib.ListN.{length}
 use borrow.Author.Rules.{rules}
 use Rattle.line.specs.Receiving.{held_max}
-use Rattle.host_answers.proofs.Held.{length_front, first-lent, rest-lent}
+use Rattle.host_answers.proofs.Held.{length_front, first_lent, rest_lent}
 use Rattle.host_acting.proofs.settle_in.Statement.{statement}
 use Rattle.host_acting.proofs.settle_in.Tie as tie
 
@@ -28,8 +28,8 @@ returns c =
     let settled = c.before.before.settle.ensures in
     let size : length c.before.before.settle.new.0 ≡ held_max =
     omega (arith, length_front s.args.store.now s.requires.0) in
-    let first = first-lent _ s.args.store.now size c.before.before.settle.result (omega arith) in
-    (settled.0, first ∙ settled.1, rest-lent c.before.before.settle.new.0 s.args.store.now size)
+    let first = first_lent _ s.args.store.now size c.before.before.settle.result (omega arith) in
+    (settled.0, first ∙ settled.1, rest_lent c.before.before.settle.new.0 s.args.store.now size)
 
 pub settle-in-spec : {M : Type 1} → statement M
 settle-in-spec =

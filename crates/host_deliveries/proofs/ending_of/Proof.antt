@@ -9,16 +9,16 @@ use Rattle.ledger.specs.Parts.{live_max}
 use Rattle.endpoint.specs.Endpoint.{rows_of, live_of}
 use Rattle.endpoint.specs.Places.{at}
 use Rattle.endpoint.specs.declared.Requests.{Requests}
-use Rattle.endpoint.proofs.Rows.{blank_row, length-rows, rows_at}
+use Rattle.endpoint.proofs.Rows.{blank_row, length_rows, rows_at}
 use Rattle.endpoint.proofs.Listed.{requests_at}
 use Rattle.host_deliveries.proofs.ending_of.Statement.{statement}
 use Rattle.host_deliveries.proofs.ending_of.Tie as tie
 
 -- the ID of the live request in a row
-id-at : (live : Requests) → length live.rows ≡ live_max → live.count ≤ live_max → (store : List ℕ) (i : ℕ) → i < live.count
+id_at : (live : Requests) → length live.rows ≡ live_max → live.count ≤ live_max → (store : List ℕ) (i : ℕ) → i < live.count
     → (at i (live_of live store)).id ≡ (get_or live.rows i blank_row).id.0
-id-at live three few store i less =
-    let count = length-rows live three few in
+id_at live three few store i less =
+    let count = length_rows live three few in
     rw (requests_at 0 i (rows_of live) store (omega arith), rows_at live three few i less)
 
 three : (c : tie.Start) → length c.args.t1.rows ≡ live_max
@@ -56,7 +56,7 @@ returns-3 : tie.Need-returns-3
 returns-3 c store =
     let s = c.before.before.before.before.before in
     let change = c.before.before.before.change.given in
-    rw (change.1, id-at s.args.t1 (three s) s.requires.0 store change.0.0 (named c.before.before))
+    rw (change.1, id_at s.args.t1 (three s) s.requires.0 store change.0.0 (named c.before.before))
 
 pub ending-of-spec : {M : Type 1} → statement M
 ending-of-spec =

@@ -2,13 +2,13 @@
 use borrow.Author.Rules.{rules}
 use Rattle.link.specs.Promises.{frame_of}
 use Rattle.decisions_poll.specs.declared.Step.TheVariants.{End, Again, First, Quiet}
-use Rattle.refinement.proofs.Sound.{few-of}
+use Rattle.refinement.proofs.Sound.{few_of}
 use Rattle.host_sending.proofs.Stepping.{stepped, reached, first_sent_law}
 use Rattle.host_polling.proofs.accept.Statement.{statement}
 use Rattle.host_polling.proofs.accept.Tie as tie
 
 next-step-requires : tie.Need-next-step-requires
-next-step-requires c κs = let s = c.before.before.before in few-of s.args.e s.requires.0.0.sound
+next-step-requires c κs = let s = c.before.before.before in few_of s.args.e s.requires.0.0.sound
 
 enum-known-step : tie.Need-enum-known-step
 enum-known-step c = search rules

@@ -8,11 +8,11 @@ use Rattle.line.specs.Receiving.{held_max}
 use Rattle.line.specs.declared.Answer.TheVariants.{One}
 use Rattle.endpoint.specs.Endpoint.{store_length}
 use Rattle.live_changes.specs.Changing.{Names}
-use Rattle.refinement.proofs.Sound.{few-of, held_of}
+use Rattle.refinement.proofs.Sound.{few_of, held_of}
 use Rattle.decisions_verdict.specs.declared.Verdict.{Verdict}
 use Rattle.host_answers.specs.Code.{Ready}
 use Rattle.host_answers.proofs.Held.{length_front}
-use Rattle.host_receiving.proofs.Deciding.{short_payload, on-more, on-plain, on-message}
+use Rattle.host_receiving.proofs.Deciding.{short_payload, on_more, on_plain, on_message}
 use Rattle.host_receiving.proofs.accept.Statement.{statement}
 use Rattle.host_receiving.proofs.accept.Tie as tie
 
@@ -58,7 +58,7 @@ returns c =
     let decided = more.before.before.before in
     let d = decided.before.decide-in in
     let a = (start decided).args in
-    on-more a.e d.result v.result a.clock 0 acted.act.result a.bytes.now a.store.now d.new.0
+    on_more a.e d.result v.result a.clock 0 acted.act.result a.bytes.now a.store.now d.new.0
     acted.act.new.1.0 a.reply.now a.buffer.now d.ensures acted.act.ensures refl more.enum_told.given.1
     (record { word = v.ensures.0; change = v.ensures.1; seen = v.ensures.2 })
 
@@ -93,7 +93,7 @@ returns-2 c =
     let decided = one.before.before.before in
     let d = decided.before.decide-in in
     let a = (start decided).args in
-    on-plain a.e d.result v.result a.clock put.result acted.act2.result a.bytes.now a.store.now
+    on_plain a.e d.result v.result a.clock put.result acted.act2.result a.bytes.now a.store.now
     d.new.0 acted.act2.new.1.0 a.reply.now a.buffer.now d.ensures acted.act2.ensures answer.0.0
     put.new.0 answer.1 plain.match2.keys2
     (record { word = v.ensures.0; change = v.ensures.1; seen = v.ensures.2 }) put.ensures
@@ -114,7 +114,7 @@ deliver-requires c κs =
     let d = decided.before.decide-in in
     let s = start decided in
     let a = s.args in (
-      few-of a.e s.pre.0.0.sound,
+      few_of a.e s.pre.0.0.sound,
       omega arith,
       short_payload d.result a.e.held a.bytes.now a.store.now d.new.0 d.ensures,
     )
@@ -152,7 +152,7 @@ returns-3 c =
     let decided = one.before.before.before in
     let d = decided.before.decide-in in
     let a = (start decided).args in
-    on-message a.e d.result v.result a.clock put.result acted.act3.result a.bytes.now a.store.now
+    on_message a.e d.result v.result a.clock put.result acted.act3.result a.bytes.now a.store.now
     d.new.0 acted.act3.new.1.0 a.reply.now a.buffer.now d.ensures acted.act3.ensures item.0.0
     item.0.1.1.0 item.0.1.0 put.new.0 v.new.1.1.1.1.1.1.0 (answer.1 ∙ ap One item.1)
     (rw item.1 at put.ensures) v.ensures.0 v.ensures.1

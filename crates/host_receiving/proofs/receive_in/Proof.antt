@@ -18,7 +18,7 @@ use Rattle.refinement.specs.Refusals.{refusal_of}
 use Rattle.refusals.specs.Code.{with_endpoint}
 use Rattle.refusals.proofs.Table.{passed, own_passed}
 use Rattle.host_answers.proofs.Calls.{sound_of}
-use Rattle.host_answers.proofs.Calls.{meets, refuses, refused-by, accepted-by}
+use Rattle.host_answers.proofs.Calls.{meets, refuses, refused_by, accepted_by}
 use Rattle.host_receiving.proofs.receive_in.Statement.{statement}
 use Rattle.host_receiving.proofs.receive_in.Tie as tie
 
@@ -35,7 +35,7 @@ roomy e clock x y h =
 passes : (c : tie.After-enum-told)
     → let a = c.before.before.before.before.before.before.before.args in
     refusal_of a.e a.store.now (receive a.bytes.now a.reply.now a.buffer.now a.clock) ≡ none
-passes c = let check = c.before.before.check-receive in accepted-by check.result check.ensures c.enum_told.given.1
+passes c = let check = c.before.before.check-receive in accepted_by check.result check.ensures c.enum_told.given.1
 
 check-receive-requires : tie.Need-check-receive-requires
 check-receive-requires c κs = search rules
@@ -59,7 +59,7 @@ returns c =
     let told = c.before.check.given in
     let check = c.before.before.before.check-receive in
     refuses a.e a.store.now (receive a.bytes.now a.reply.now a.buffer.now a.clock) _ told.0.0
-    (refused-by check.result check.ensures told.1)
+    (refused_by check.result check.ensures told.1)
     (record { answers = refl; leaves = refl; keeps = refl; stores = refl })
 
 same_length : tie.Need-same-length

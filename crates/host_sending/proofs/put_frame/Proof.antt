@@ -14,7 +14,7 @@ use Rattle.endpoint.specs.Endpoint.{room_place, live_of}
 use Rattle.endpoint.specs.Places.{at, Fits}
 use Rattle.endpoint.specs.declared.Requests.{Requests}
 use Rattle.endpoint.proofs.Rows.{blank_row}
-use Rattle.live_changes.proofs.Becoming.{live_at, len-at}
+use Rattle.live_changes.proofs.Becoming.{live_at, len_at}
 use Rattle.frames.specs.Promises.{Put}
 use Rattle.host_sending.proofs.put_frame.Statement.{statement}
 use Rattle.host_sending.proofs.put_frame.Tie as tie
@@ -24,7 +24,7 @@ three c = sym (length-map c.args.t1.rows _) ∙ c.well-formed.0.1.1.0.1.0.1
 
 -- the data of the request in a row are within their room, and the room within the store
 short : (c : tie.Start) → (get_or c.args.t1.rows c.args.row blank_row).len ≤ max_data
-short c = len-at c.args.t1 (three c) c.requires.1 c.args.row c.requires.2
+short c = len_at c.args.t1 (three c) c.requires.1 c.args.row c.requires.2
 
 -- the part of the store that is lent is the room's
 whole : (live : Requests) (store : List ℕ) (row place seq count : ℕ) (entry exit : List ℕ) → length live.rows ≡ live_max → Fits live

@@ -1,15 +1,15 @@
 -- `host_sending::send` meets its contract: the frame stands in the output, and its request is in flight.
 use borrow.Author.Rules.{rules}
-use Rattle.refinement.proofs.Sound.{fits-of}
+use Rattle.refinement.proofs.Sound.{fits_of}
 use Rattle.host_sending.proofs.Stepping.{sent}
 use Rattle.host_sending.proofs.send.Statement.{statement}
 use Rattle.host_sending.proofs.send.Tie as tie
 
 put-frame-requires : tie.Need-put-frame-requires
-put-frame-requires c κs = let s = c.before.before.before.before.before in (s.requires.0.1, fits-of s.args.e s.requires.0.0.sound, s.requires.1, s.requires.2)
+put-frame-requires c κs = let s = c.before.before.before.before.before in (s.requires.0.1, fits_of s.args.e s.requires.0.0.sound, s.requires.1, s.requires.2)
 
 carry-out-requires : tie.Need-carry-out-requires
-carry-out-requires c κs = let s = c.before.before.before.before.before.before.before.before.before in (s.requires.0.1, fits-of s.args.e s.requires.0.0.sound, s.requires.1)
+carry-out-requires c κs = let s = c.before.before.before.before.before.before.before.before.before in (s.requires.0.1, fits_of s.args.e s.requires.0.0.sound, s.requires.1)
 
 after-requires : tie.Need-after-requires
 after-requires c κs = search rules

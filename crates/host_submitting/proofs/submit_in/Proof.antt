@@ -4,7 +4,7 @@ use lib.ListN.{length, length-map}
 use borrow.Author.Rules.{rules}
 use Rattle.command.specs.Promises.{fields_of}
 use Rattle.ledger.specs.Calls.{submit}
-use Rattle.host_answers.proofs.Calls.{meets, refuses, refused-by, accepted-by}
+use Rattle.host_answers.proofs.Calls.{meets, refuses, refused_by, accepted_by}
 use Rattle.host_answers.proofs.Calls.{sound_of}
 use Rattle.host_submitting.proofs.Joining.{submit_table, room_of}
 use Rattle.host_submitting.proofs.submit_in.Statement.{statement}
@@ -26,7 +26,7 @@ accept-requires : tie.Need-accept-requires
 accept-requires c κs =
     let s = c.before.before.before.before.before.before in
     let a = s.args in
-    let table = accepted-by c.before.before.before.check-submit.result c.before.before.before.check-submit.ensures c.before.enum_told.given.1 in
+    let table = accepted_by c.before.before.before.check-submit.result c.before.before.before.check-submit.ensures c.before.enum_told.given.1 in
     let room = room_of a.e a.«data».now a.clock table in
     ((sound_of a.e a.clock _ table, s.requires), room.short, room.free)
 
@@ -37,7 +37,7 @@ returns c =
     refuses a.e a.store.now (submit (fields_of a.fields) a.«data».now a.wanted a.clock) _
     c.before.check.given.0.0
     (sym (submit_table a.e a.store.now (fields_of a.fields) a.«data».now a.wanted a.clock (three s))
-    ∙ refused-by c.before.before.before.check-submit.result c.before.before.before.check-submit.ensures c.before.check.given.1)
+    ∙ refused_by c.before.before.before.check-submit.result c.before.before.before.check-submit.ensures c.before.check.given.1)
     (record { answers = refl; leaves = refl; keeps = refl; stores = refl })
 
 same_length : tie.Need-same-length
@@ -47,7 +47,7 @@ returns-2 : tie.Need-returns-2
 returns-2 c =
     let s = c.before.before.before.before.before.before.before.before.before in
     let a = s.args in
-    let table = accepted-by c.before.before.before.before.before.before.check-submit.result c.before.before.before.before.before.before.check-submit.ensures c.before.before.before.before.enum_told.given.1 in
+    let table = accepted_by c.before.before.before.before.before.before.check-submit.result c.before.before.before.before.before.before.check-submit.ensures c.before.before.before.before.enum_told.given.1 in
     meets a.e a.store.now (submit (fields_of a.fields) a.«data».now a.wanted a.clock) _
     (sound_of a.e a.clock _ table).sound
     (sym (submit_table a.e a.store.now (fields_of a.fields) a.«data».now a.wanted a.clock (three s)) ∙ table)

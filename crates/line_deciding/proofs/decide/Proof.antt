@@ -6,7 +6,7 @@ use lib.Seq.{length-take-le}
 use borrow.Author.Rules.{rules}
 use Rattle.message.proofs.Found.{scan_within}
 use Rattle.line.specs.Receiving.{decides}
-use Rattle.line.proofs.Gives.{gives-item}
+use Rattle.line.proofs.Gives.{gives_item}
 use Rattle.line.proofs.Taking.{at_held}
 use Rattle.line_deciding.proofs.decide.Statement.{statement}
 use Rattle.line_deciding.proofs.decide.Tie as tie
@@ -58,7 +58,7 @@ returns-2 c =
     let size : length held ≡ a.count = length-take-le a.count a.array.now (omega arith) in
     let told = c.before.before.reading.given in
     let h = sym (rw told.1 at c.before.before.before.before.read.ensures) in
-    gives-item a.array.now held (rw size) c.in_array.result held a.new.now 0 told.0.0 told.0.1.0
+    gives_item a.array.now held (rw size) c.in_array.result held a.new.now 0 told.0.0 told.0.1.0
     told.0.1.1.0
     (at_held held a.new.now (ap decides h)) h (omega (arith, size)) (rw size c.in_array.ensures)
 

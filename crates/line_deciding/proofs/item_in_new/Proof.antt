@@ -4,7 +4,7 @@ use mathlib.Core.Path.{refl, ap, ◌∙◌}
 use native.Mathlib.Omega.{arith}
 use lib.ListN.{length, take, drop, length-take}
 use borrow.Author.Rules.{rules}
-use Rattle.line.proofs.Gives.{follows, gives-new, front_placed}
+use Rattle.line.proofs.Gives.{follows, gives_new, front_placed}
 use Rattle.line_deciding.proofs.item_in_new.Statement.{statement}
 use Rattle.line_deciding.proofs.item_in_new.Tie as tie
 
@@ -42,7 +42,7 @@ returns c =
     let f = follows a.item a.dropped a.removed k a.new.now start.requires.1 last in
     let small : length f ≤ length a.array.now =
     rw (length-take (k - (a.dropped + a.removed)) (drop (a.dropped + a.removed) a.new.now)) (omega arith) in
-    gives-new a.item a.dropped a.removed k a.new.now start.requires.1 last _ _ (refl, refl, refl, refl, refl)
+    gives_new a.item a.dropped a.removed k a.new.now start.requires.1 last _ _ (refl, refl, refl, refl, refl)
     (ap (take (length f)) c.before.before.put-at.ensures ∙ front_placed f a.array.now small)
 
 pub item-in-new-spec : {M : Type 1} → statement M

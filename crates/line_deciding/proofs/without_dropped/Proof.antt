@@ -4,7 +4,7 @@ use mathlib.Core.Path.{sym, ◌∙◌}
 use native.Mathlib.Omega.{arith}
 use lib.ListN.{take, drop}
 use borrow.Author.Rules.{rules}
-use Rattle.line.proofs.Dropped.{drops, all-dropped, waits, receives}
+use Rattle.line.proofs.Dropped.{drops, all_dropped, waits, receives}
 use Rattle.line.proofs.Moving.{length_part}
 use Rattle.line.proofs.Start.{decides_same, broken}
 use Rattle.line_deciding.proofs.without_dropped.Statement.{statement}
@@ -29,7 +29,7 @@ returns c =
     let a = start.args in
     let le = drops a.count a.dropped a.array.now p.0 p.1 p.2 in
     decides_same
-    (all-dropped a.count a.dropped a.array.now p.0 p.1 p.2 a.new.now (omega (arith, le)))
+    (all_dropped a.count a.dropped a.array.now p.0 p.1 p.2 a.new.now (omega (arith, le)))
     c.before.before.in-new.ensures
 
 breaks-syn-requires : tie.Need-breaks-syn-requires

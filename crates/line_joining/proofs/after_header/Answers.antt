@@ -2,7 +2,7 @@
 use native.Mathlib.Omega.{arith}
 use lib.ListN.{take, drop}
 use Rattle.line.proofs.Moving.{length_part}
-use Rattle.line.proofs.Whole.{waits-for, all-waits}
+use Rattle.line.proofs.Whole.{waits_for, all_waits}
 use Rattle.line_joining.proofs.after_header.Goals as goal
 
 pub overflow_sub-need : goal.overflow_sub-need
@@ -11,7 +11,7 @@ overflow_sub-need c =
     let a = c.args in
     let held = take a.kept (drop a.from a.array.now) in
     let size = length_part a.from a.kept a.array.now (omega arith) in
-    let w = waits-for a.kept held a.new.now size p.2 p.3 in
+    let w = waits_for a.kept held a.new.now size p.2 p.3 in
     omega (arith, w, p.4, c.total_length.ensures)
 
 pub all_wait-requires : goal.all_wait-requires
@@ -20,12 +20,12 @@ all_wait-requires c =
     let a = c.args in
     let held = take a.kept (drop a.from a.array.now) in
     let size = length_part a.from a.kept a.array.now (omega arith) in
-    let w = waits-for a.kept held a.new.now size p.2 p.3 in
+    let w = waits_for a.kept held a.new.now size p.2 p.3 in
     let count = c.total_length.ensures in (
       p.0,
       p.1,
       omega (arith, w, p.4, count),
-      all-waits a.kept held a.new.now size p.2 p.3 (omega (arith, w, p.4, count)),
+      all_waits a.kept held a.new.now size p.2 p.3 (omega (arith, w, p.4, count)),
     )
 
 pub whole_message-requires : goal.whole_message-requires
@@ -34,6 +34,6 @@ whole_message-requires c =
     let a = c.args in
     let held = take a.kept (drop a.from a.array.now) in
     let size = length_part a.from a.kept a.array.now (omega arith) in
-    let w = waits-for a.kept held a.new.now size p.2 p.3 in
+    let w = waits_for a.kept held a.new.now size p.2 p.3 in
     let count = c.total_length.ensures in
     (p.0, p.1, p.2, p.3, p.4, omega (arith, w, p.4, count), omega arith)

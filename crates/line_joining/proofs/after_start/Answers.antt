@@ -6,7 +6,7 @@ use native.Mathlib.Omega.{arith}
 use lib.ListN.{take, drop}
 use lib.Seq.{length-take-le}
 use Rattle.line.proofs.Moving.{length_part}
-use Rattle.line.proofs.Start.{start-waits, header-waits, gives-header}
+use Rattle.line.proofs.Start.{start_waits, header_waits, gives_header}
 use Rattle.line_joining.proofs.after_start.Goals as goal
 
 pub all_wait-requires : goal.all_wait-requires
@@ -15,7 +15,7 @@ all_wait-requires c =
     let a = c.args in
     let held = take a.kept (drop a.from a.array.now) in
     let size = length_part a.from a.kept a.array.now (omega arith) in
-    (p.0, p.1, omega arith, start-waits a.kept held a.new.now size p.2 p.4 p.5 (omega arith))
+    (p.0, p.1, omega arith, start_waits a.kept held a.new.now size p.2 p.4 p.5 (omega arith))
 
 pub slice_bounds-join_header-end-2 : goal.slice_bounds-join_header-end-2
 slice_bounds-join_header-end-2 c = sym (length-take-le _ _ (omega arith))
@@ -41,7 +41,7 @@ after_header-requires c =
     c.join_header-header.ensures in
     let read =
     rw (c.in_default.is, header) at c.read-reading.ensures in
-    let w = header-waits a.kept held a.new.now size p.2 p.4 (8 - a.kept) (omega arith) (omega arith) p.5
+    let w = header_waits a.kept held a.new.now size p.2 p.4 (8 - a.kept) (omega arith) (omega arith) p.5
     (sym read) in
     (p.0, p.1, omega arith, w, rw header at c.len_in-len.ensures.0, c.len_in-len.ensures.1)
 
@@ -66,7 +66,7 @@ returns c =
     c.join_header-header.ensures in
     let read = rw (c.in-Decided.is, header) at c.read-reading.ensures in
     let e = c.header_item.ensures in
-    gives-header a.kept held a.new.now size p.2 p.4 (8 - a.kept) (omega arith) (omega arith) _ c.in-Decided.item
+    gives_header a.kept held a.new.now size p.2 p.4 (8 - a.kept) (omega arith) (omega arith) _ c.in-Decided.item
     c.in-Decided.dropped
     c.in-Decided.removed a.array.now _ p.5 (sym read) p.0 e.4
     (e.0, e.1 ∙ length-take-le (8 - a.kept) a.new.now (omega arith), e.2, e.3)

@@ -7,7 +7,7 @@ use lib.ListN.{length, take, drop, length-append, length-drop}
 use lib.Seq.{length-take-le}
 use Rattle.message.specs.Items.{undecided, scan}
 use Rattle.message.specs.Writing.{placed}
-use Rattle.message.proofs.Buffer.{through-placed}
+use Rattle.message.proofs.Buffer.{through_placed}
 use Rattle.line.specs.Promises.{Decides}
 use Rattle.line.specs.Receiving.{held_max}
 use Rattle.line.specs.declared.Answer.TheVariants.{More}
@@ -27,7 +27,7 @@ waits d from kept array new x exit size within fits none said one two =
     let front : take kept x ≡ held = rw one (rw count at (front_placed held array (omega (arith, count)))) in
     let sum : length (held ++ new) ≡ kept + length new = length-append held new ∙ rw count in
     gives_more d held new exit {e = 0} none (said.0, said.1, said.2, rw sum said.3)
-    (rw (sum, two) (through-placed kept new x (omega arith) ∙ rw front))
+    (rw (sum, two) (through_placed kept new x (omega arith) ∙ rw front))
 
 pub returns : goal.returns
 returns c =

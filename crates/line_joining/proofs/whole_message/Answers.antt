@@ -5,7 +5,7 @@ use lib.ListN.{take, drop, length-take, length-drop}
 use lib.Seq.{length-take-le}
 use Rattle.message.specs.Bytes.{total}
 use Rattle.line.proofs.Moving.{length_part}
-use Rattle.line.proofs.Whole.{waits-for, compared, gives-message, gives-damaged}
+use Rattle.line.proofs.Whole.{waits_for, compared, gives_message, gives_damaged}
 use Rattle.line_joining.proofs.whole_message.Goals as goal
 
 pub slice_bounds-append_behind_syn-end : goal.slice_bounds-append_behind_syn-end
@@ -17,7 +17,7 @@ append_behind_syn-requires c =
     let a = c.args in
     let held = take a.kept (drop a.from a.array.now) in
     let size = length_part a.from a.kept a.array.now (omega arith) in
-    let w = waits-for a.kept held a.new.now size p.2 p.3 in
+    let w = waits_for a.kept held a.new.now size p.2 p.3 in
     rw (length-take-le a.need a.new.now (omega arith)) (omega (arith, w, p.4, p.5))
 
 pub payload_is_sound-requires : goal.payload_is_sound-requires
@@ -26,7 +26,7 @@ payload_is_sound-requires c =
     let a = c.args in
     let held = take a.kept (drop a.from a.array.now) in
     let size = length_part a.from a.kept a.array.now (omega arith) in
-    let w = waits-for a.kept held a.new.now size p.2 p.3 in
+    let w = waits_for a.kept held a.new.now size p.2 p.3 in
     simp (length-take, length-drop) (omega (arith, w, p.4))
 
 pub returns-then-payload_is_sound : goal.returns-then-payload_is_sound
@@ -38,7 +38,7 @@ returns-then-payload_is_sound c =
     let whole = p.5 ∙ ap total p.4 in
     let left = c.append_behind_syn.ensures in
     let same = compared a.kept held a.new.now size p.2 p.3 a.need whole p.6 a.array.now _ left _ p.4 in
-    gives-message a.kept held a.new.now size p.2 p.3 a.need whole p.6 a.array.now _ left _ _ _ _
+    gives_message a.kept held a.new.now size p.2 p.3 a.need whole p.6 a.array.now _ left _ _ _ _
     (sym same ∙ sym c.payload_is_sound.ensures
     ∙ c.if-payload_is_sound.true) (refl, refl, p.4) (refl, refl, refl, refl, refl)
 
@@ -51,5 +51,5 @@ returns c =
     let whole = p.5 ∙ ap total p.4 in
     let left = c.append_behind_syn.ensures in
     let same = compared a.kept held a.new.now size p.2 p.3 a.need whole p.6 a.array.now _ left _ p.4 in
-    gives-damaged a.kept held a.new.now size p.2 p.3 a.need whole p.6 a.array.now _ left _
+    gives_damaged a.kept held a.new.now size p.2 p.3 a.need whole p.6 a.array.now _ left _
     (sym same ∙ sym c.payload_is_sound.ensures ∙ c.if-payload_is_sound.false) (refl, refl, refl, omega arith)

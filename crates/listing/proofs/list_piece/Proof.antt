@@ -9,7 +9,7 @@ use borrow.Author.Tests.{not-true, not-false}
 use Rattle.line.specs.Receiving.{held_max}
 use Rattle.listing_lines.specs.Text.{line_room}
 use Rattle.listing.specs.Promises.{standing}
-use Rattle.listing.proofs.Turn.{Left, removes, left-next, left-fails, listed_more, short, counted}
+use Rattle.listing.proofs.Turn.{Left, removes, left_next, left_fails, listed_more, short, counted}
 use Rattle.listing.proofs.list_piece.Statement.{statement}
 use Rattle.listing.proofs.list_piece.Tie as tie
 
@@ -58,7 +58,7 @@ returns-2 c =
     let a = c.before.before.before.before.add-line in
     let l = c.before.before.before.before.before.before.before.before.before.before.before.loop.invariant in (
       (r.ensures.within, a.ensures.within),
-      left-fails r.result _ _ _ r.ensures _
+      left_fails r.result _ _ _ r.ensures _
           c.before.before.before.before.before.before.before.answer.given.1 _ _ l.4 l.3 a.ensures
           (omega (arith, l.2, l.3)) (not-true _ c.if1.true),
     )
@@ -99,7 +99,7 @@ loop-again c =
       a.ensures.within,
       omega (arith, l.2, l.3),
       omega (arith, l.3),
-      left-next r.result _ _ _ r.ensures _
+      left_next r.result _ _ _ r.ensures _
           c.before.before.before.before.before.before.before.before.answer.given.1 _ _ l.4 l.3 a.ensures
           (not-false _ c.before.if1.false),
     )

@@ -1,20 +1,20 @@
 -- `listing_words::put_word` meets its contract: by TYPE.
 use native.Mathlib.Omega.{arith}
-use Rattle.listing_words.proofs.Putting.{word-ack, word-nak, word-seq, word-nsq}
+use Rattle.listing_words.proofs.Putting.{word_ack, word_nak, word_seq, word_nsq}
 use Rattle.listing_words.proofs.put_word.Goals as goal
 
 pub returns-then-kind-eq-ACK : goal.returns-then-kind-eq-ACK
 returns-then-kind-eq-ACK c =
     let p =
     c.put.ensures in
-    (p.0, rw (word-ack c.args.kind (omega arith)) p.1)
+    (p.0, rw (word_ack c.args.kind (omega arith)) p.1)
 
 pub returns-then-kind-eq-NAK : goal.returns-then-kind-eq-NAK
 returns-then-kind-eq-NAK c =
     let p =
     c.put-then-kind-eq-NAK.ensures in (
       p.0,
-      rw (word-nak c.args.kind (omega arith) (omega arith))
+      rw (word_nak c.args.kind (omega arith) (omega arith))
           p.1,
     )
 
@@ -24,7 +24,7 @@ returns-then-kind-eq-DATA_SEQ c =
     c.put-then-kind-eq-DATA_SEQ.ensures in (
       p.0,
       rw
-          (word-seq c.args.kind (omega arith) (omega arith)
+          (word_seq c.args.kind (omega arith) (omega arith)
           (omega arith)) p.1,
     )
 
@@ -34,6 +34,6 @@ returns c =
     c.put-2.ensures in (
       p.0,
       rw
-          (word-nsq c.args.kind (omega arith) (omega arith)
+          (word_nsq c.args.kind (omega arith) (omega arith)
           (omega arith)) p.1,
     )

@@ -4,7 +4,7 @@ use mathlib.Core.Path.{◌≡◌, refl, sym, ◌∙◌}
 use native.Mathlib.Omega.{arith}
 use lib.ListN.{length, length-map}
 use Rattle.ledger.specs.Parts.{live_max}
-use Rattle.live_changes.proofs.Becoming.{len-at, none-moved, one-moved, all_moved}
+use Rattle.live_changes.proofs.Becoming.{len_at, none_moved, one_moved, all_moved}
 use Rattle.live_changes.proofs.without.Goals as goal
 
 full : (c : tie.Start invariant-loop decreases-loop) → length c.args.live.rows ≡ live_max
@@ -14,18 +14,18 @@ pub loop-i-init : goal.loop-i-init
 loop-i-init c =
     let a = c.args in
     let p = c.requires in
-    none-moved a.live a.store.now a.row (full c) p.1 p.0 p.2
+    none_moved a.live a.store.now a.row (full c) p.1 p.0 p.2
 
 pub move_up-requires : goal.move_up-requires
 move_up-requires c =
     let l = c.loop-i in
-    (l.invariant.long, omega arith, omega (arith, len-at l.next l.invariant.full l.invariant.fits (l.i + 1) (omega arith)))
+    (l.invariant.long, omega arith, omega (arith, len_at l.next l.invariant.full l.invariant.fits (l.i + 1) (omega arith)))
 
 pub loop-i-preserved : goal.loop-i-preserved
 loop-i-preserved c =
     let a = c.args in
     let l = c.loop-i in
-    one-moved a.live a.store.now a.row l.next l.store l.i l.invariant _ (omega arith)
+    one_moved a.live a.store.now a.row l.next l.store l.i l.invariant _ (omega arith)
     c.move_up.ensures
 
 pub returns : goal.returns

@@ -6,7 +6,7 @@ use native.Mathlib.Omega.{arith}
 use lib.ListN.{length, length-map}
 use borrow.Author.Rules.{rules}
 use Rattle.live_deadline.specs.Deadlines.{time_of}
-use Rattle.live_deadline.proofs.Turns.{Awaits, times-in-time, times-on, times-end}
+use Rattle.live_deadline.proofs.Turns.{Awaits, times_in_time, times_on, times_end}
 use Rattle.live_deadline.proofs.time_left.Statement.{statement}
 use Rattle.live_deadline.proofs.time_left.Tie as tie
 
@@ -26,7 +26,7 @@ returns : tie.Need-returns invariant-loop decreases-loop
 returns c =
     let start = c.before.before.before in
     let turn = c.before.before.loop in
-    times-end start.args.t1 (three start) start.requires.0 turn.i start.args.clock (time_of turn.best) turn.invariant.1 c.if1.true
+    times_end start.args.t1 (three start) start.requires.0 turn.i start.args.clock (time_of turn.best) turn.invariant.1 c.if1.true
 
 mul-q : tie.Need-overflow-mul-q invariant-loop decreases-loop
 mul-q c = omega arith
@@ -38,7 +38,7 @@ left-in-requires : tie.Need-left-in-requires invariant-loop decreases-loop
 left-in-requires c κs =
     let start = c.before.before.before.before in
     let turn = c.before.before.before.loop in
-    times-in-time start.args.t1 (three start) start.requires.0 turn.i start.args.clock (time_of turn.best) turn.invariant.1 (omega arith)
+    times_in_time start.args.t1 (three start) start.requires.0 turn.i start.args.clock (time_of turn.best) turn.invariant.1 (omega arith)
 
 sooner-requires : tie.Need-sooner-requires invariant-loop decreases-loop
 sooner-requires c κs = search rules
@@ -54,7 +54,7 @@ loop-again c =
     let start = c.before.before.before.before.before.before in
     let turn = c.before.before.before.before.before.loop in (
       omega arith,
-      times-on
+      times_on
           start.args.t1
           (three start)
           start.requires.0
@@ -73,7 +73,7 @@ returns-2 : tie.Need-returns-2 invariant-loop decreases-loop
 returns-2 c =
     let start = c.before.before in
     let turn = c.before.loop in
-    times-end start.args.t1 (three start) start.requires.0 turn.i start.args.clock (time_of turn.best) turn.invariant.1 (omega arith)
+    times_end start.args.t1 (three start) start.requires.0 turn.i start.args.clock (time_of turn.best) turn.invariant.1 (omega arith)
 
 pub time-left-spec : {M : Type 1} → statement M
 time-left-spec =

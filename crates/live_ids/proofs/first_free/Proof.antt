@@ -8,7 +8,7 @@ use borrow.Author.Tests.{not-true, not-false}
 use Rattle.ledger.specs.Submitting.{first_free}
 use Rattle.endpoint.specs.Endpoint.{rows_of}
 use Rattle.endpoint.specs.Malformed.{bare_of}
-use Rattle.live_ids.proofs.FirstFree.{free-here, free_on, free-end}
+use Rattle.live_ids.proofs.FirstFree.{free_here, free_on, free_end}
 use Rattle.live_ids.proofs.first_free.Statement.{statement}
 use Rattle.live_ids.proofs.first_free.Tie as tie
 
@@ -29,7 +29,7 @@ is-live-requires c κs = search rules
 returns : tie.Need-returns invariant-loop decreases-loop
 returns c =
     let turn = c.before.before.before.loop in
-    sym (free-here _ _ turn.id.0 turn.left (sym c.before.is_live.ensures ∙ not-true _ c.if1.true)) ∙ turn.invariant.1
+    sym (free_here _ _ turn.id.0 turn.left (sym c.before.is_live.ensures ∙ not-true _ c.if1.true)) ∙ turn.invariant.1
 
 id-after-requires : tie.Need-id-after-requires invariant-loop decreases-loop
 id-after-requires c κs = search rules
@@ -50,7 +50,7 @@ loop-again c =
     )
 
 returns-2 : tie.Need-returns-2 invariant-loop decreases-loop
-returns-2 c = let turn = c.before.loop in sym (free-end _ _ turn.id.0 turn.left (omega arith)) ∙ turn.invariant.1
+returns-2 c = let turn = c.before.loop in sym (free_end _ _ turn.id.0 turn.left (omega arith)) ∙ turn.invariant.1
 
 pub first-free-spec : {M : Type 1} → statement M
 first-free-spec =

@@ -4,7 +4,7 @@ use Prim.Native.Nat.{◌-◌}
 use mathlib.Core.Path.{◌≡◌, sym, ◌∙◌}
 use native.Mathlib.Omega.{arith}
 use lib.ListN.{length, length-map}
-use Rattle.live_search.proofs.Turns.{find-here, find-on, find-end}
+use Rattle.live_search.proofs.Turns.{find_here, find_on, find_end}
 use Rattle.live_search.proofs.find.Goals as goal
 
 three : (c : tie.Start invariant-loop decreases-loop) → length c.args.t1.rows ≡ 3
@@ -13,16 +13,16 @@ three c = sym (length-map c.args.t1.rows _) ∙ c.well-formed.0.1.1.0.1.0.1
 pub returns-then-is_shown : goal.returns-then-is_shown
 returns-then-is_shown c =
     let turn = c.loop-i in
-    find-here c.args.t1 (three c) c.requires turn.i _ turn.invariant.1 (omega arith) (sym c.is_shown.ensures ∙ c.if-is_shown.true)
+    find_here c.args.t1 (three c) c.requires turn.i _ turn.invariant.1 (omega arith) (sym c.is_shown.ensures ∙ c.if-is_shown.true)
 
 pub loop-i-preserved : goal.loop-i-preserved
 loop-i-preserved c =
     let turn = c.loop-i in (
       omega arith,
-      find-on c.args.t1 (three c) c.requires turn.i _ turn.invariant.1 (omega arith) (sym c.is_shown.ensures ∙ c.if-is_shown.false),
+      find_on c.args.t1 (three c) c.requires turn.i _ turn.invariant.1 (omega arith) (sym c.is_shown.ensures ∙ c.if-is_shown.false),
     )
 
 pub returns : goal.returns
 returns c =
     let turn = c.loop-i in
-    find-end c.args.t1 (three c) c.requires turn.i _ turn.invariant.1 (omega arith)
+    find_end c.args.t1 (three c) c.requires turn.i _ turn.invariant.1 (omega arith)

@@ -10,7 +10,7 @@ use Rattle.endpoint.specs.Endpoint.{request_of, rows_of}
 use Rattle.endpoint.proofs.Rows.{rest}
 use Rattle.live_search.specs.Searching.{shows, first_where}
 use Rattle.live_search.specs.declared.Query.TheVariants.{Flying}
-use Rattle.live_search.proofs.Turns.{find-here, find-on, find-end}
+use Rattle.live_search.proofs.Turns.{find_here, find_on, find_end}
 use Rattle.live_states.proofs.oldest_flying.Statement.{statement}
 use Rattle.live_states.proofs.oldest_flying.Tie as tie
 
@@ -32,7 +32,7 @@ returns : tie.Need-returns invariant-loop decreases-loop
 returns c =
     let start = c.before.before.before in
     let turn = c.before.before.loop in
-    find-end start.args.t1 (three start) start.requires turn.i _ turn.invariant.1 c.if1.true
+    find_end start.args.t1 (three start) start.requires turn.i _ turn.invariant.1 c.if1.true
 
 mul-q : tie.Need-overflow-mul-q invariant-loop decreases-loop
 mul-q c = omega arith
@@ -47,7 +47,7 @@ returns-2 : tie.Need-returns-2 invariant-loop decreases-loop
 returns-2 c =
     let start = c.before.before.before.before.before.before in
     let turn = c.before.before.before.before.before.loop in
-    find-here start.args.t1 (three start) start.requires turn.i _ turn.invariant.1 (omega arith) (sym c.before.is-flying.ensures ∙ c.if2.true)
+    find_here start.args.t1 (three start) start.requires turn.i _ turn.invariant.1 (omega arith) (sym c.before.is-flying.ensures ∙ c.if2.true)
 
 add-i : tie.Need-overflow-add-i invariant-loop decreases-loop
 add-i c = omega arith
@@ -60,14 +60,14 @@ loop-again c =
     let start = c.before.before.before.before.before.before in
     let turn = c.before.before.before.before.before.loop in (
       omega arith,
-      find-on start.args.t1 (three start) start.requires turn.i _ turn.invariant.1 (omega arith) (sym c.before.is-flying.ensures ∙ c.if2.false),
+      find_on start.args.t1 (three start) start.requires turn.i _ turn.invariant.1 (omega arith) (sym c.before.is-flying.ensures ∙ c.if2.false),
     )
 
 returns-3 : tie.Need-returns-3 invariant-loop decreases-loop
 returns-3 c =
     let start = c.before.before in
     let turn = c.before.loop in
-    let end = find-end start.args.t1 (three start) start.requires turn.i _ turn.invariant.1 (omega arith) in
+    let end = find_end start.args.t1 (three start) start.requires turn.i _ turn.invariant.1 (omega arith) in
     omega arith
 
 pub oldest-flying-spec : {M : Type 1} → statement M

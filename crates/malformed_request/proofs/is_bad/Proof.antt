@@ -1,7 +1,7 @@
 -- `malformed_request::is_bad` meets its contract: by the first test that the request fails.
 use mathlib.Core.Path.{sym, ◌∙◌}
 use borrow.Author.Rules.{rules}
-use Rattle.endpoint.proofs.OneRequest.{bad-outside, bad-long, bad-left}
+use Rattle.endpoint.proofs.OneRequest.{bad_outside, bad_long, bad_left}
 use Rattle.malformed_request.proofs.is_bad.Statement.{statement}
 use Rattle.malformed_request.proofs.is_bad.Tie as tie
 
@@ -11,7 +11,7 @@ is-outside-requires c κs = search rules
 returns : tie.Need-returns
 returns c =
     let a = c.before.before.before.args in
-    sym (bad-outside a.reserved a.clock a.q (sym c.before.is-outside.ensures ∙ c.if1.true))
+    sym (bad_outside a.reserved a.clock a.q (sym c.before.is-outside.ensures ∙ c.if1.true))
 
 is-too-long-requires : tie.Need-is-too-long-requires
 is-too-long-requires c κs = search rules
@@ -20,7 +20,7 @@ returns-2 : tie.Need-returns-2
 returns-2 c =
     let a = c.before.before.before.before.before.args in
     let out = sym c.before.before.before.is-outside.ensures ∙ c.before.before.if1.false in
-    sym (bad-long a.reserved a.clock a.q out (sym c.before.is-too-long.ensures ∙ c.if2.true))
+    sym (bad_long a.reserved a.clock a.q out (sym c.before.is-too-long.ensures ∙ c.if2.true))
 
 is-bad-state-requires : tie.Need-is-bad-state-requires
 is-bad-state-requires c κs = search rules
@@ -30,7 +30,7 @@ returns-3 c =
     let a = c.before.before.before.before.before.before.args in
     let out = sym c.before.before.before.before.is-outside.ensures ∙ c.before.before.before.if1.false in
     let long = sym c.before.before.is-too-long.ensures ∙ c.before.if2.false in
-    c.is-bad-state.ensures ∙ sym (bad-left a.reserved a.clock a.q out long)
+    c.is-bad-state.ensures ∙ sym (bad_left a.reserved a.clock a.q out long)
 
 pub is-bad-spec : {M : Type 1} → statement M
 is-bad-spec =

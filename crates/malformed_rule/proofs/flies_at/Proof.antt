@@ -7,7 +7,7 @@ use borrow.Author.Rules.{rules}
 use Rattle.endpoint.specs.Endpoint.{state_of}
 use Rattle.endpoint.proofs.OneRequest.{at_most_once}
 use Rattle.endpoint.proofs.Rows.{blank_row}
-use Rattle.endpoint.proofs.Scans.{flights-next, flights-none}
+use Rattle.endpoint.proofs.Scans.{flights_next, flights_none}
 use Rattle.malformed_rule.proofs.flies_at.Statement.{statement}
 use Rattle.malformed_rule.proofs.flies_at.Tie as tie
 
@@ -18,8 +18,8 @@ returns : tie.Need-returns
 returns c =
     let a = c.before in
     let n = a.args.row in
-    let here = flights-none a.args.t1 (three a) a.requires n c.if1.true in
-    let on = flights-none a.args.t1 (three a) a.requires (n + 1) (omega arith) in
+    let here = flights_none a.args.t1 (three a) a.requires n c.if1.true in
+    let on = flights_none a.args.t1 (three a) a.requires (n + 1) (omega arith) in
     (omega arith, omega arith)
 
 mul-q : tie.Need-overflow-mul-q
@@ -35,7 +35,7 @@ returns-2 : tie.Need-returns-2
 returns-2 c =
     let a = c.before.before.before in
     let once = at_most_once (state_of (get_or a.args.t1.rows a.args.row blank_row).state) in
-    let next = flights-next a.args.t1 (three a) a.requires a.args.row (omega arith) in
+    let next = flights_next a.args.t1 (three a) a.requires a.args.row (omega arith) in
     let own = c.flies.ensures in
     (omega arith, omega arith)
 

@@ -6,7 +6,7 @@ use lib.ListN.{length, length-map, drop}
 use Rattle.ledger.specs.Refusals.{flights}
 use Rattle.endpoint.specs.Endpoint.{rows_of}
 use Rattle.endpoint.specs.Malformed.{bare_of}
-use Rattle.endpoint.proofs.Scans.{flights-none}
+use Rattle.endpoint.proofs.Scans.{flights_none}
 use Rattle.malformed_rule.proofs.in_flight.Statement.{statement}
 use Rattle.malformed_rule.proofs.in_flight.Tie as tie
 
@@ -47,7 +47,7 @@ returns : tie.Need-returns invariant-loop decreases-loop
 returns c =
     let a = c.before.before in
     let l = c.before.loop in
-    let none = flights-none a.args.live (three a) a.requires l.i (omega arith) in
+    let none = flights_none a.args.live (three a) a.requires l.i (omega arith) in
     let sum = l.invariant.2 in
     omega arith
 

@@ -7,7 +7,7 @@ use lib.ListN.{length, length-map, drop}
 use Rattle.ledger.specs.Submitting.{is_live}
 use Rattle.endpoint.specs.Endpoint.{rows_of}
 use Rattle.endpoint.specs.Malformed.{bare_of}
-use Rattle.endpoint.proofs.Scans.{live-none}
+use Rattle.endpoint.proofs.Scans.{live_none}
 use Rattle.malformed_rule.proofs.is_among.Statement.{statement}
 use Rattle.malformed_rule.proofs.is_among.Tie as tie
 
@@ -60,7 +60,7 @@ returns-2 : tie.Need-returns-2 invariant-loop decreases-loop
 returns-2 c =
     let a = c.before.before in
     let l = c.before.loop in
-    sym (sym l.invariant.1 ∙ live-none a.args.live (three a) a.requires.1 (a.args.from + l.i) a.args.id.0 (omega arith))
+    sym (sym l.invariant.1 ∙ live_none a.args.live (three a) a.requires.1 (a.args.from + l.i) a.args.id.0 (omega arith))
 
 pub is-among-spec : {M : Type 1} → statement M
 is-among-spec =

@@ -4,7 +4,7 @@ use Prim.Native.Nat.{◌+◌}
 use native.Mathlib.Omega.{arith}
 use lib.ListN.{length, length-map}
 use borrow.Author.Rules.{rules}
-use Rattle.endpoint.proofs.Scans.{bad-here, bad-rest, bad-none}
+use Rattle.endpoint.proofs.Scans.{bad_here, bad_rest, bad_none}
 use Rattle.malformed_rule.proofs.is_bad_at.Statement.{statement}
 use Rattle.malformed_rule.proofs.is_bad_at.Tie as tie
 
@@ -15,8 +15,8 @@ returns : tie.Need-returns
 returns c =
     let a = c.before in
     let x = a.args in
-    bad-none x.t1 (three a) a.requires x.row x.reserved x.clock c.if1.true
-    ∙ sym (bad-none x.t1 (three a) a.requires (x.row + 1) x.reserved x.clock (omega arith))
+    bad_none x.t1 (three a) a.requires x.row x.reserved x.clock c.if1.true
+    ∙ sym (bad_none x.t1 (three a) a.requires (x.row + 1) x.reserved x.clock (omega arith))
 
 mul-q : tie.Need-overflow-mul-q
 mul-q c = omega arith
@@ -32,7 +32,7 @@ returns-2 c =
     let a = c.before.before.before.before in
     let x = a.args in
     let bad = sym c.before.is-bad.ensures ∙ c.if2.true in
-    bad-here x.t1 (three a) a.requires x.row x.reserved x.clock (omega arith) bad
+    bad_here x.t1 (three a) a.requires x.row x.reserved x.clock (omega arith) bad
 
 add-is-among : tie.Need-overflow-add-is-among
 add-is-among c = omega arith
@@ -45,7 +45,7 @@ returns-3 c =
     let a = c.before.before.before.before.before.before in
     let x = a.args in
     let good = sym c.before.before.before.is-bad.ensures ∙ c.before.before.if2.false in
-    bad-rest x.t1 (three a) a.requires x.row x.reserved x.clock (omega arith) good _ c.is_among.ensures
+    bad_rest x.t1 (three a) a.requires x.row x.reserved x.clock (omega arith) good _ c.is_among.ensures
 
 pub is-bad-at-spec : {M : Type 1} → statement M
 is-bad-at-spec =

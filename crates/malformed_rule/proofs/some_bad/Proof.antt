@@ -6,7 +6,7 @@ use native.Mathlib.Omega.{arith}
 use lib.ListN.{length, length-map, drop}
 use Rattle.endpoint.specs.Code.{some_bad}
 use Rattle.endpoint.specs.Endpoint.{rows_of}
-use Rattle.endpoint.proofs.Scans.{bad-none}
+use Rattle.endpoint.proofs.Scans.{bad_none}
 use Rattle.malformed_rule.proofs.some_bad.Statement.{statement}
 use Rattle.malformed_rule.proofs.some_bad.Tie as tie
 
@@ -51,7 +51,7 @@ returns-2 : tie.Need-returns-2 invariant-loop decreases-loop
 returns-2 c =
     let a = c.before.before in
     let l = c.before.loop in
-    sym (sym l.invariant.1 ∙ bad-none a.args.live (three a) a.requires l.i a.args.reserved a.args.clock (omega arith))
+    sym (sym l.invariant.1 ∙ bad_none a.args.live (three a) a.requires l.i a.args.reserved a.args.clock (omega arith))
 
 pub some-bad-spec : {M : Type 1} → statement M
 some-bad-spec =

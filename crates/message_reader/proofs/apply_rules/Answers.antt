@@ -10,7 +10,7 @@ use Rattle.checksum.specs.Checksum.{checksum_of}
 use Rattle.message.specs.Bytes.{from_le16, header_length}
 use Rattle.message.specs.Items.{len_in, payload_in, payload_checksum_in}
 use Rattle.message.proofs.Buffer.{lent_from, tail}
-use Rattle.message.proofs.Rules.{rule-1, rule-2, rule-3, rule-4, rule-5, rule-6}
+use Rattle.message.proofs.Rules.{rule_1, rule_2, rule_3, rule_4, rule_5, rule_6}
 use Rattle.message_reader.proofs.apply_rules.Goals as goal
 
 -- what is compared behind the header
@@ -25,14 +25,14 @@ compared n xs count =
 pub returns-then-rest-lt-HEADER_LENGTH : goal.returns-then-rest-lt-HEADER_LENGTH
 returns-then-rest-lt-HEADER_LENGTH c =
     let a = c.args in
-    sym (rule-1 a.dropped a.rest.now (omega arith))
+    sym (rule_1 a.dropped a.rest.now (omega arith))
 
 pub returns-then-not-sound : goal.returns-then-not-sound
 returns-then-not-sound c =
     let a = c.args in
     c.found.ensures
     ∙ sym
-    (rule-2 a.dropped a.rest.now (omega arith)
+    (rule_2 a.dropped a.rest.now (omega arith)
     (sym c.header_is_sound-sound.ensures ∙ c.if-not-sound.true))
 
 pub returns-then-not-fine : goal.returns-then-not-fine
@@ -40,7 +40,7 @@ returns-then-not-fine c =
     let a = c.args in
     c.found-then-not-fine.ensures
     ∙ sym
-    (rule-3 a.dropped a.rest.now (omega arith)
+    (rule_3 a.dropped a.rest.now (omega arith)
     (sym c.header_is_sound-sound.ensures ∙ c.if-not-sound.false)
     (rw c.len_in-len.ensures.0 at (sym c.is_allowed-fine.ensures ∙ c.if-not-fine.true)))
 
@@ -48,7 +48,7 @@ pub returns-then-rest-total : goal.returns-then-rest-total
 returns-then-rest-total c =
     let a = c.args in
     sym
-    (rule-4 a.dropped a.rest.now (omega arith)
+    (rule_4 a.dropped a.rest.now (omega arith)
     (sym c.header_is_sound-sound.ensures ∙ c.if-not-sound.false)
     (rw c.len_in-len.ensures.0 at (sym c.is_allowed-fine.ensures ∙ c.if-not-fine.false))
     (omega (arith, c.len_in-len.ensures.0, c.total_length-total.ensures)))
@@ -58,7 +58,7 @@ returns-then-not-payload_is_sound c =
     let a = c.args in
     c.found-then-not-payload_is_sound.ensures
     ∙ sym
-    (rule-5 a.dropped a.rest.now (omega arith)
+    (rule_5 a.dropped a.rest.now (omega arith)
     (sym c.header_is_sound-sound.ensures ∙ c.if-not-sound.false)
     (rw c.len_in-len.ensures.0 at (sym c.is_allowed-fine.ensures ∙ c.if-not-fine.false))
     (omega (arith, c.len_in-len.ensures.0, c.total_length-total.ensures))
@@ -71,7 +71,7 @@ returns c =
     c.found-2.ensures
     ∙ rw (c.total_length-total.ensures, c.len_in-len.ensures.0)
     (sym
-    (rule-6 a.dropped a.rest.now (omega arith)
+    (rule_6 a.dropped a.rest.now (omega arith)
     (sym c.header_is_sound-sound.ensures ∙ c.if-not-sound.false)
     (rw c.len_in-len.ensures.0 at (sym c.is_allowed-fine.ensures ∙ c.if-not-fine.false))
     (omega (arith, c.len_in-len.ensures.0, c.total_length-total.ensures))

@@ -57,7 +57,7 @@ use Rattle.endpoint.specs.declared.Request.{Request}
 use Rattle.endpoint.specs.contracts.Request as R
 use Rattle.endpoint.proofs.Request.TheLaws as R'
 use Rattle.record_audit.specs.Records.{ids_of}
-use Rattle.record_audit.proofs.Arrays.{array-in, array-out, parts-apart, parts-together}
+use Rattle.record_audit.proofs.Arrays.{array_in, array_out, parts_apart, parts_together}
 use Rattle.record_audit.specs.contracts.audit_records as callee
 use Rattle.record_audit.proofs.audit_records.Symbol as callee-def
 use Rattle.record_audit.proofs.audit_records.Symbol.{name as #record-audit·audit-records}
@@ -71,8 +71,8 @@ use Rattle.record_audit.proofs.audit_first.Code as code
 abbrev Rows : RattleType
 Rows = Array R.the_row live_max
 
-abbrev rowsTy : Ty
-rowsTy = ty_array (lone (R.the_row).mir) live_max
+abbrev rows_ty : Ty
+rows_ty = ty_array (lone (R.the_row).mir) live_max
 
 -- the machine value of a record, of the array and of a finding
 abbrev vals : Request → List Val
@@ -147,9 +147,9 @@ module _ {M : Type 1} {𝓤 : Ura M} (𝓛 : Logic 𝓤) (at_mem : Memory → SP
         assigns ! (of_opd ! (load ! (from ! (stop !)) (look ! 10 refl))) (from ! (stop !)) (init ! 4 refl typed) $
         -- the array is Copy: what it owns is kept for the exit, and goes with the local that holds it
         move ! (15 ∷ []) $ fsplit ! $ use1 𝓛 (‵ Own ⊛ ‵ Own) ((array_copy 𝓛 R.the_row ((LL.copy R.the_type R'.the_copy) 𝓛) live_max).twice rows (va ∷ [])) $ split ! $
-        move ! (7 ∷ 0 ∷ []) $ use2 𝓛 (‵ (part_at Rows full_share rows l₄ 0)) (array-in 𝓛 R.the_row live_max rows l₄ va) $
+        move ! (7 ∷ 0 ∷ []) $ use2 𝓛 (‵ (part_at Rows full_share rows l₄ 0)) (array_in 𝓛 R.the_row live_max rows l₄ va) $
         use1 𝓛 (‵ ((arr_parts (shares R.the_row) live_max).part full_share rows l₄ 0)) (Array-apart 𝓛 R.the_row full_share tt live_max rows l₄ 0) $ fsplit ! $ let_go ! $
-        use1 𝓛 (‵ (front l₄) ⊛ ‵ (back l₄)) (parts-apart 𝓛 (shares R.the_row) full_share n rows l₄ 0) $ split ! $
+        use1 𝓛 (‵ (front l₄) ⊛ ‵ (back l₄)) (parts_apart 𝓛 (shares R.the_row) full_share n rows l₄ 0) $ split ! $
         assigns ! (addr ! (from ! (stop !))) (from ! (stop !)) (init ! 6 refl (tt, tt)) $
         rewrite ! 11 (λ (k : ℕ). ‵ (fat full_share (ty_int w64) l₂ 0 (vint w64 k))) (sym (count all few)) refl $
         assigns ! (agg ! (and_then ! (load ! (from ! (stop !)) (look ! 6 refl)) (and_then ! (load ! (from ! (stop !)) (look ! 11 refl)) (no_more !)))) (from ! (stop !)) (init ! 4 refl (tt, (tt, (record { fits = (roomy all few).0 }, tt)))) $
@@ -163,8 +163,8 @@ module _ {M : Type 1} {𝓤 : Ura M} (𝓛 : Logic 𝓤) (at_mem : Memory → SP
         peeks ! F.the_row (Is F.the_row) (shows 𝓛 F.the_row) d (u ∷ []) (λ made.
         land ! (from ! (stop !)) (init ! 17 refl ((EL.lawful F.the_type F'.the_laws 𝓛 tt).typed d _ made).0) $
         move ! (1 ∷ []) $ split ! $ lft_end ! tt $ move ! (0 ∷ 3 ∷ []) $ lent_back ! tt $ fsplit ! $ let_go ! $
-        move ! (0 ∷ 3 ∷ []) $ use2 𝓛 (‵ (parts (mem R.the_row) (shares R.the_row) full_share rows l₄ 0)) (parts-together 𝓛 (shares R.the_row) full_share n rows l₄ 0) $
-        feq_i ! ℕ (length rows) live_max all $ fjoin ! $ use1 𝓛 (‵ (part_at Rows full_share rows l₄ 0)) (Array-whole 𝓛 R.the_row full_share live_max rows l₄ 0) $ use1 𝓛 (‵ (froom rowsTy l₄ 0)) (array-out 𝓛 R.the_row live_max rows l₄) $
+        move ! (0 ∷ 3 ∷ []) $ use2 𝓛 (‵ (parts (mem R.the_row) (shares R.the_row) full_share rows l₄ 0)) (parts_together 𝓛 (shares R.the_row) full_share n rows l₄ 0) $
+        feq_i ! ℕ (length rows) live_max all $ fjoin ! $ use1 𝓛 (‵ (part_at Rows full_share rows l₄ 0)) (Array-whole 𝓛 R.the_row full_share live_max rows l₄ 0) $ use1 𝓛 (‵ (froom rows_ty l₄ 0)) (array_out 𝓛 R.the_row live_max rows l₄) $
         -- [room for seen rows; true; the result; what the array owns; what the numbers own; _6; …; _5; …; what frees _4; _3; …; _2; …; _1; …; _0; …]
         returns ! (look ! 16 refl) $ forget ! 5 refl $ forget ! 7 refl $ forget ! 10 refl $ forget ! 12 refl $ forget ! 14 refl $ forget ! 16 refl $
         move ! (16 ∷ 17 ∷ []) $ free1 ! $ move ! (14 ∷ 15 ∷ []) $ free1 ! $ move ! (12 ∷ 13 ∷ []) $ free1 ! $ move ! (10 ∷ 11 ∷ []) $ free1 ! $ move ! (0 ∷ 9 ∷ []) $ free1 ! $ move ! (6 ∷ 7 ∷ []) $ free1 ! $ move ! (4 ∷ 5 ∷ []) $ free1 ! $ free0 ! $

@@ -75,8 +75,8 @@ use Rattle.endpoint.specs.contracts.Request as R
 use Rattle.endpoint.proofs.Request.TheLaws as R'
 use Rattle.endpoint.proofs.Rows.{blank_row}
 use Rattle.record_audit.specs.Records.{ids_of}
-use Rattle.record_audit.proofs.RecordWalks.{Before, record_id, record-ends, record-found, record-passed}
-use Rattle.record_audit.proofs.Arrays.{zeros_typed, zeros-in, array-out}
+use Rattle.record_audit.proofs.RecordWalks.{Before, record_id, record_ends, record_found, record_passed}
+use Rattle.record_audit.proofs.Arrays.{zeros_typed, zeros_in, array_out}
 use Rattle.record_audit.specs.contracts.audit_records.Key.{name as #record-audit·audit-records}
 use Rattle.record_audit.specs.contracts.audit_records as f
 use Rattle.record_audit.proofs.audit_records.Statement as stated
@@ -96,8 +96,8 @@ table = ty_array word words
 abbrev slice : Ty
 slice = slice_ty (ty_ref (named 0) imm (pointee (R.the_row).written))
 
-abbrev tableRef : Ty
-tableRef = ty_ref erased mut table
+abbrev table_ref : Ty
+table_ref = ty_ref erased mut table
 
 abbrev finding : Ty
 finding = F'.mir
@@ -221,17 +221,17 @@ module _ {M : Type 1} {𝓤 : Ura M} (𝓛 : Logic 𝓤) (at_mem : Memory → SP
 
     -- the locals: the result, row, reserved, seen, i, the count and the offset, the test, the step's answer, the record's place, its ID, the loan of seen
     abbrev En : Env 𝓤 H
-    En = (finding, l₀) ∷ (slice, l₁) ∷ (word, l₂) ∷ (table, l₃) ∷ (word, l₄) ∷ (word, l₅) ∷ (ty_bool, l₆) ∷ (ty_bool, l₇) ∷ (ty_ptr, l₈) ∷ (half, l₉) ∷ (tableRef, l₁₀) ∷ []
+    En = (finding, l₀) ∷ (slice, l₁) ∷ (word, l₂) ∷ (table, l₃) ∷ (word, l₄) ∷ (word, l₅) ∷ (ty_bool, l₆) ∷ (ty_bool, l₇) ∷ (ty_ptr, l₈) ∷ (half, l₉) ∷ (table_ref, l₁₀) ∷ []
 
     -- what no turn touches: the parameters' locals and the result's, the row, the lifetime's token, what the row owns, and what frees each local
     abbrev Frame : List (Item 𝓤)
     Frame = ‵ (fshr_bor κ (λ t. (arr_parts (shares R.the_row) n).part t row b o)) ∷ ‵ (flft κ q) ∷ ‵ Own
         ∷ ‵ (fdies finding l₀) ∷ ‵ (fdies slice l₁) ∷ ‵ (fdies word l₂) ∷ ‵ (fdies table l₃) ∷ ‵ (fdies word l₄) ∷ ‵ (fdies word l₅)
-        ∷ ‵ (fdies ty_bool l₆) ∷ ‵ (fdies ty_bool l₇) ∷ ‵ (fdies ty_ptr l₈) ∷ ‵ (fdies half l₉) ∷ ‵ (fdies tableRef l₁₀) ∷ []
+        ∷ ‵ (fdies ty_bool l₆) ∷ ‵ (fdies ty_bool l₇) ∷ ‵ (fdies ty_ptr l₈) ∷ ‵ (fdies half l₉) ∷ ‵ (fdies table_ref l₁₀) ∷ []
 
     -- every local is room
     abbrev Rooms : List (Item 𝓤)
-    Rooms = ‵ (froom table l₃ 0) ∷ ‵ (froom word l₄ 0) ∷ ‵ (froom word l₅ 0) ∷ ‵ (froom ty_bool l₆ 0) ∷ ‵ (froom ty_bool l₇ 0) ∷ ‵ (froom ty_ptr l₈ 0) ∷ ‵ (froom half l₉ 0) ∷ ‵ (froom tableRef l₁₀ 0)
+    Rooms = ‵ (froom table l₃ 0) ∷ ‵ (froom word l₄ 0) ∷ ‵ (froom word l₅ 0) ∷ ‵ (froom ty_bool l₆ 0) ∷ ‵ (froom ty_bool l₇ 0) ∷ ‵ (froom ty_ptr l₈ 0) ∷ ‵ (froom half l₉ 0) ∷ ‵ (froom table_ref l₁₀ 0)
         ∷ ‵ (froom slice l₁ 0) ∷ ‵ (froom word l₂ 0) ∷ ‵ (froom finding l₀ 0) ∷ Frame
 
     -- the function is left with a finding
@@ -258,7 +258,7 @@ module _ {M : Type 1} {𝓤 : Ura M} (𝓛 : Logic 𝓤) (at_mem : Memory → SP
 
     -- the loop's invariant
     abbrev Inv : Turn → List (Item 𝓤)
-    Inv x = In x.0 x.1 (‵ (froom word l₅ 0)) (‵ (froom ty_bool l₆ 0)) (‵ (froom ty_bool l₇ 0)) (‵ (froom ty_ptr l₈ 0)) (‵ (froom half l₉ 0)) (‵ (froom tableRef l₁₀ 0))
+    Inv x = In x.0 x.1 (‵ (froom word l₅ 0)) (‵ (froom ty_bool l₆ 0)) (‵ (froom ty_bool l₇ 0)) (‵ (froom ty_ptr l₈ 0)) (‵ (froom half l₉ 0)) (‵ (froom table_ref l₁₀ 0))
 
     -- the ID is read
     abbrev Read : (i : ℕ) (t : List ℕ) → Item 𝓤 → Item 𝓤 → List (Item 𝓤)
@@ -282,24 +282,24 @@ module _ {M : Type 1} {𝓤 : Ura M} (𝓛 : Logic 𝓤) (at_mem : Memory → SP
         rewrite ! 3 (λ (t : Bool). ‵ (fat full_share ty_bool l₆ 0 (vbool t))) (le-ltb x.0 n most) refl $
         leaves_loop ! (load ! (from ! (stop !)) (look ! 3 refl)) $ exec ! C Λ En code-mir.t-4 (at_ret En Post) $
         assigns ! (agg ! (and_then ! (lit ! tt) (no_more !))) (from ! (stop !)) (init ! 10 refl ((EL.lawful F.the_type F'.the_laws 𝓛 tt).typed None (mach None ∷ []) made_none).0) $
-        returns ! (look ! 10 refl) $ use1 𝓛 (‵ (froom table l₃ 0)) (array-out 𝓛 u64 words x.1 l₃) $
+        returns ! (look ! 10 refl) $ use1 𝓛 (‵ (froom table l₃ 0)) (array_out 𝓛 u64 words x.1 l₃) $
         forget ! 1 refl $ forget ! 2 refl $ forget ! 3 refl $ forget ! 8 refl $ forget ! 9 refl $ forget ! 10 refl $
-        freed None (record-ends r row x.1 x.0 x.3 most) made_none
+        freed None (record_ends r row x.1 x.0 x.3 most) made_none
 
     -- from the step's answer on: the position is the finding, or the next turn begins with the table that the step left
     decides : (x : Turn) → x.0 < n → (t : List ℕ) (a : Bool) → Judged r (record_id row x.0) x.1 t a
-        → Sq 𝓛 (Read x.0 t (‵ (fat full_share ty_bool l₇ 0 (vbool a))) (‵ (fat full_share tableRef l₁₀ 0 (vptr l₃ 0)))) (Runs 8 x)
+        → Sq 𝓛 (Read x.0 t (‵ (fat full_share ty_bool l₇ 0 (vbool a))) (‵ (fat full_share table_ref l₁₀ 0 (vptr l₃ 0)))) (Runs 8 x)
     unfolding after_turn
     decides x less t a j =
         first ! $ branches ! (load ! (from ! (stop !)) (look ! 4 refl))
         (λ unsound. assigns ! (agg ! (and_then ! (lit ! tt) (and_then ! (load ! (from ! (stop !)) (look ! 1 refl)) (no_more !)))) (from ! (stop !)) (init ! 10 refl ((EL.lawful F.the_type F'.the_laws 𝓛 tt).typed (At x.0) (mach (At x.0) ∷ []) made).0) $
-        returns_within ! Post refl (look ! 10 refl) $ use1 𝓛 (‵ (froom table l₃ 0)) (array-out 𝓛 u64 words t l₃) $
+        returns_within ! Post refl (look ! 10 refl) $ use1 𝓛 (‵ (froom table l₃ 0)) (array_out 𝓛 u64 words t l₃) $
         forget ! 1 refl $ forget ! 2 refl $ forget ! 3 refl $ forget ! 4 refl $ forget ! 5 refl $ forget ! 6 refl $ forget ! 7 refl $ forget ! 8 refl $ forget ! 9 refl $ forget ! 10 refl $
-        freed (At x.0) (record-found r row x.1 x.0 x.3 less t a j (holds a unsound)) made)
+        freed (At x.0) (record_found r row x.1 x.0 x.3 less t a j (holds a unsound)) made)
         (λ sound. skips ! $ exec ! C Λ En (after 9 code-mir.turn-1) (any_q (Turned x)) $
         assigns_last ! (bin ! (load ! (from ! (stop !)) (look ! 1 refl)) (lit ! tt) (record { fits = next_fits })) (from ! (stop !)) (store ! 1 refl (tt, record { fits = next_fits })) $
         forget ! 2 refl $ forget ! 3 refl $ forget ! 4 refl $ forget ! 5 refl $ forget ! 6 refl $ forget ! 7 refl $
-        again ! Nearer Inv x (x.0 + 1, t, next-within, record-passed r row x.1 x.0 x.3 less t a j (fails a sound)) nearer)
+        again ! Nearer Inv x (x.0 + 1, t, next-within, record_passed r row x.1 x.0 x.3 less t a j (fails a sound)) nearer)
       where
         made : Is F.the_row (At x.0) (mach (At x.0) ∷ [])
         made = made_at x.0 (lt_trans less g.0)
@@ -314,7 +314,7 @@ module _ {M : Type 1} {𝓤 : Ura M} (𝓛 : Logic 𝓤) (at_mem : Memory → SP
         nearer = omega arith
 
     -- the step: the table is lent for the call, and comes back as the step left it
-    asks : (x : Turn) → x.0 < n → record_id row x.0 < 2 ^ 16 → Sq 𝓛 (Read x.0 x.1 (‵ (froom ty_bool l₇ 0)) (‵ (froom tableRef l₁₀ 0))) (Runs 6 x)
+    asks : (x : Turn) → x.0 < n → record_id row x.0 < 2 ^ 16 → Sq 𝓛 (Read x.0 x.1 (‵ (froom ty_bool l₇ 0)) (‵ (froom table_ref l₁₀ 0))) (Runs 6 x)
     asks x less gi =
         let id = record_id row x.0 in
         let t = x.1 in
@@ -371,7 +371,7 @@ module _ {M : Type 1} {𝓤 : Ura M} (𝓛 : Logic 𝓤) (at_mem : Memory → SP
       pass1 ! (init ! 18 refl (tt, (tt, (record { fits = g.0 }, tt)))) $ pass1 ! (init ! 16 refl (tt, record { fits = gr })) $ pass0 ! $
       assigns ! (rep ! words (lit ! tt)) (from ! (stop !)) (init ! 14 refl (zeros_typed words)) $
       assigns ! (of_opd ! (lit ! tt)) (from ! (stop !)) (init ! 12 refl (tt, record { fits = lit< tt })) $
-      move ! (14 ∷ []) $ use1 𝓛 (‵ (part_at Table full_share (replicate words 0) l₃ 0)) (zeros-in 𝓛 words l₃) $
+      move ! (14 ∷ []) $ use1 𝓛 (‵ (part_at Table full_share (replicate words 0) l₃ 0)) (zeros_in 𝓛 words l₃) $
       -- the row can be copied: one copy of what it owns is kept for the exit, and of the other the fractured borrow
       move ! (23 ∷ []) $ fsplit ! $ use1 𝓛 (‵ Own ⊛ ‵ Own) ((shr_slice_copy 𝓛 (named 0) κ R.the_row).twice s (v ∷ [])) $ split ! $ fsplit ! $ drop ! $ fsplit ! $ drop ! $ move ! (25 ∷ []) $ split ! $
       keep ! (5 ∷ 18 ∷ 16 ∷ 14 ∷ 12 ∷ 10 ∷ 8 ∷ 6 ∷ 23 ∷ 21 ∷ 25 ∷ 2 ∷ 0 ∷ 3 ∷ 26 ∷ 24 ∷ 22 ∷ 20 ∷ 19 ∷ 17 ∷ 15 ∷ 13 ∷ 11 ∷ 9 ∷ 7 ∷ []) $

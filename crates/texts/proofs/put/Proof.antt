@@ -4,7 +4,7 @@ use mathlib.Core.Path.{ap, ◌∙◌}
 use native.Mathlib.Omega.{arith}
 use lib.ListN.{length, take}
 use borrow.Author.Rules.{rules}
-use Rattle.message.proofs.Buffer.{copied, through-placed}
+use Rattle.message.proofs.Buffer.{copied, through_placed}
 use Rattle.texts.proofs.put.Statement.{statement}
 use Rattle.texts.proofs.put.Tie as tie
 
@@ -31,7 +31,7 @@ returns c = let a = c.before.before.before.before.before.before.args in
     let put = copied a.at a.text.now a.out.now _ (omega arith) c.before.before.copy.ensures.1 in
     record {
       within = omega arith;
-      reads = ap (take (a.at + length a.text.now)) put ∙ through-placed a.at a.text.now a.out.now (omega arith);
+      reads = ap (take (a.at + length a.text.now)) put ∙ through_placed a.at a.text.now a.out.now (omega arith);
     }
 
 pub put_spec : {M : Type 1} → statement M

@@ -1,19 +1,19 @@
 -- `audit::seen::judge` meets its contract: a reserved ID is unsound by itself, and of another the table decides.
 use mathlib.Core.Path.{sym, ◌∙◌}
-use Rattle.audit.proofs.Tables.{judged-reserved, judged-marked}
+use Rattle.audit.proofs.Tables.{judged_reserved, judged_marked}
 use Rattle.audit.proofs.seen.judge.Goals as goal
 
 pub returns-then-is_reserved : goal.returns-then-is_reserved
 returns-then-is_reserved c =
     let a = c.args in
-    judged-reserved a.reserved a.id a.seen.now (sym c.is_reserved.ensures ∙ c.if-is_reserved.true)
+    judged_reserved a.reserved a.id a.seen.now (sym c.is_reserved.ensures ∙ c.if-is_reserved.true)
 
 pub returns : goal.returns
 returns c =
     let start = c in
     let a = start.args in
     let m = c.mark in
-    judged-marked
+    judged_marked
     a.reserved
     a.id
     a.seen.now

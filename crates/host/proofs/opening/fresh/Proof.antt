@@ -4,7 +4,7 @@ use mathlib.Core.Path.{refl}
 use native.Mathlib.Numerals.{add-one}
 use borrow.Author.Rules.{rules}
 use Rattle.endpoint.specs.declared.Endpoint.{Endpoint}
-use Rattle.host.proofs.Fresh.{fresh-ledger, fresh-sound}
+use Rattle.host.proofs.Fresh.{fresh_ledger, fresh_sound}
 use Rattle.host.proofs.opening.fresh.Statement.{statement}
 use Rattle.host.proofs.opening.fresh.Tie as tie
 
@@ -35,9 +35,9 @@ returns c =
       seen = c.none.result;
       held = 0;
     } in (
-      fresh-ledger e r c.before.before.no-requests.ensures refl refl c.before.first.ensures (add-one r) c.none.ensures
+      fresh_ledger e r c.before.before.no-requests.ensures refl refl c.before.first.ensures (add-one r) c.none.ensures
           refl,
-      fresh-sound e r c.before.before.no-requests.ensures refl refl c.before.first.ensures (add-one r) c.none.ensures
+      fresh_sound e r c.before.before.no-requests.ensures refl refl c.before.first.ensures (add-one r) c.none.ensures
           refl (search rules),
     )
 

@@ -5,7 +5,7 @@ use mathlib.Core.Path.{◌∙◌, ◌≡◌, refl, sym}
 use native.Mathlib.Omega.{arith}
 use lib.ListN.{set, get_or, length-set, length}
 use Rattle.message.proofs.Buffer.{standing}
-use Rattle.line.proofs.Moving.{moved, moved_none, moved-next}
+use Rattle.line.proofs.Moving.{moved, moved_none, moved_next}
 use Rattle.line.proofs.store.move_to_front.Goals as goal
 
 -- what the loop knows when so many are moved
@@ -18,7 +18,7 @@ step : (from count i : ℕ) (l a : List ℕ) → i < count → from + count ≤ 
 step from count i l a more within inv =
     let one : i + 1 ≡ suc i = omega arith in
     let next : set a i (get_or a (from + i) 0) ≡ moved from (i + 1) l =
-    rw (inv.2, one) (moved-next from i l (omega arith) (omega arith)) in
+    rw (inv.2, one) (moved_next from i l (omega arith) (omega arith)) in
     (omega arith, length-set a i (get_or a (from + i) 0) ∙ inv.1, next)
 
 -- nothing to move

@@ -5,7 +5,7 @@ use mathlib.Core.Path.{◌≡◌, refl, sym, ◌∙◌}
 use native.Mathlib.Numerals.{add-one}
 use native.Mathlib.Omega.{arith}
 use lib.ListN.{length, get_or, set, length-set}
-use Rattle.live_changes.proofs.Moving.{pulled_none, pulled-next}
+use Rattle.live_changes.proofs.Moving.{pulled_none, pulled_next}
 use Rattle.live_changes.proofs.rooms.move_up.Goals as goal
 
 -- one byte more
@@ -15,7 +15,7 @@ step : (l : List ℕ) (len to from : ℕ) (a : List ℕ) (i : ℕ) → i < len �
 step l len to from a i more up within inv = (
   omega arith,
   length-set a (to + i) (get_or a (from + i) 0) ∙ inv.1,
-  rw (inv.2, add-one) (pulled-next to from i l up (omega arith) (omega arith)),
+  rw (inv.2, add-one) (pulled_next to from i l up (omega arith) (omega arith)),
 )
 
 pub loop-i-init : goal.loop-i-init

@@ -13,16 +13,16 @@ control : (t n : ℕ) → (eqb t ack || eqb t nak) ≡ true → allowed t n ≡ 
 unfolding allowed
 control t n h = rw h
 
-dataFrame : (t n : ℕ) → (eqb t ack || eqb t nak) ≡ false → (eqb t data_seq || eqb t data_nsq) ≡ true
+data_frame : (t n : ℕ) → (eqb t ack || eqb t nak) ≡ false → (eqb t data_seq || eqb t data_nsq) ≡ true
     → allowed t n ≡ (leb 1 n && leb n max_len)
 unfolding allowed
-dataFrame t n h k = rw (h, k)
+data_frame t n h k = rw (h, k)
 
 filled : (t n : ℕ) → (eqb t ack || eqb t nak) ≡ false → (eqb t data_seq || eqb t data_nsq) ≡ true → 1 ≤ n → leb n max_len ≡ allowed t n
-filled t n h k one = rw (dataFrame t n h k, le-leb 1 n one)
+filled t n h k one = rw (data_frame t n h k, le-leb 1 n one)
 
 empty : (t n : ℕ) → (eqb t ack || eqb t nak) ≡ false → (eqb t data_seq || eqb t data_nsq) ≡ true → n < 1 → leb 1 n ≡ allowed t n
-empty t n h k none = rw (dataFrame t n h k, lt-leb 1 n none)
+empty t n h k none = rw (data_frame t n h k, lt-leb 1 n none)
 
 other : (t n : ℕ) → (eqb t ack || eqb t nak) ≡ false → (eqb t data_seq || eqb t data_nsq) ≡ false → false ≡ allowed t n
 unfolding allowed

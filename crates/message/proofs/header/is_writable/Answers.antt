@@ -9,13 +9,13 @@ use Rattle.message.specs.Bytes.{nak, allowed, writable}
 use Rattle.message.proofs.header.is_writable.Goals as goal
 
 -- the cases of `writable`
-no-nak : (t n q : ℕ) → allowed t n ≡ true → (t ≡ nak → ⊥) → not (eqb t nak) ≡ writable t n q
+no_nak : (t n q : ℕ) → allowed t n ≡ true → (t ≡ nak → ⊥) → not (eqb t nak) ≡ writable t n q
 unfolding writable
-no-nak t n q h k = rw (h, ne_eqb t nak k)
+no_nak t n q h k = rw (h, ne_eqb t nak k)
 
-a-nak : (t n q : ℕ) → allowed t n ≡ true → t ≡ nak → eqb q 0 ≡ writable t n q
+a_nak : (t n q : ℕ) → allowed t n ≡ true → t ≡ nak → eqb q 0 ≡ writable t n q
 unfolding writable
-a-nak t n q h k = rw (h, eq-eqb t nak k)
+a_nak t n q h k = rw (h, eq-eqb t nak k)
 
 forbidden : (t n q : ℕ) → allowed t n ≡ false → false ≡ writable t n q
 unfolding writable
@@ -24,12 +24,12 @@ forbidden t n q h = rw h
 pub returns-then-kind-ne-NAK : goal.returns-then-kind-ne-NAK
 returns-then-kind-ne-NAK c =
     let a = c.args in
-    no-nak a.kind _ _ (sym c.is_allowed.ensures ∙ c.if-is_allowed.true) (omega arith)
+    no_nak a.kind _ _ (sym c.is_allowed.ensures ∙ c.if-is_allowed.true) (omega arith)
 
 pub returns-else-kind-ne-NAK : goal.returns-else-kind-ne-NAK
 returns-else-kind-ne-NAK c =
     let a = c.args in
-    a-nak a.kind _ _ (sym c.is_allowed.ensures ∙ c.if-is_allowed.true) (omega arith)
+    a_nak a.kind _ _ (sym c.is_allowed.ensures ∙ c.if-is_allowed.true) (omega arith)
 
 pub returns : goal.returns
 returns c = forbidden _ _ _ (sym c.is_allowed.ensures ∙ c.if-is_allowed.false)

@@ -12,12 +12,12 @@ nothing_seen : (s : Seen) (seq : ℕ) → s ≡ Nothing → false ≡ is_repeat 
 unfolding is_repeat
 nothing_seen s seq h = rw h
 
-last-seen : (s : Seen) (last : Seq) (seq : ℕ) → s ≡ Last last → eqb last.0 seq ≡ is_repeat (seen_of s) seq
+last_seen : (s : Seen) (last : Seq) (seq : ℕ) → s ≡ Last last → eqb last.0 seq ≡ is_repeat (seen_of s) seq
 unfolding is_repeat
-last-seen s last seq h = rw h
+last_seen s last seq h = rw h
 
 pub returns-in-Nothing : goal.returns-in-Nothing
 returns-in-Nothing c = nothing_seen _ _ c.in-Nothing.is
 
 pub returns-in-Last : goal.returns-in-Last
-returns-in-Last c = last-seen _ _ _ c.in-Last.is
+returns-in-Last c = last_seen _ _ _ c.in-Last.is
