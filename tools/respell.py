@@ -91,7 +91,19 @@ def renamed(crates):
         parts = os.path.relpath(path, crates).split(os.sep)
         if parts[1] == "specs" or (parts[1] == "proofs" and len(parts) == 3):
             names.update(declared(path))
+    names -= of_the_library(crates)
     return {name: snake(name) for name in sorted(names) if snake(name) != name}
+
+
+def of_the_library(crates):
+    """Names that some file brings in from outside the repository: one of its own with that spelling keeps it."""
+    own, out = {*os.listdir(crates)}, set()
+    for path in files(crates, ".antt"):
+        for module, brought in re.findall(r"^use ([^\s{]+)\.\{([^}]*)\}", read(path), re.MULTILINE):
+            parts = module.split(".")
+            if parts[0] != "Rattle" or parts[1] not in own:
+                out.update(TOKEN.findall(brought))
+    return out
 
 
 def turn(text, names):

@@ -2,7 +2,7 @@
 -- and the walk of the definition finds the first position at which the test holds.
 use Prim.Native.Nat.{ℕ, zero, suc, ◌+◌, ◌<◌}
 use mathlib.Core.Bool.{Bool, true, false, true≢false, ◌||◌, or-true, cond as if}
-use mathlib.Core.List.{List, [], ◌∷◌, ◌++◌, append_nil}
+use mathlib.Core.List.{List, [], ◌∷◌, ◌++◌, append-nil}
 use mathlib.Core.Option.{Option, none, some}
 use mathlib.Core.Path.{◌≡◌, refl, sym, ap, ◌∙◌}
 use native.Mathlib.Omega.{arith}
@@ -110,7 +110,7 @@ module _ (r : ℕ) (ids : List ℕ) where
 
   -- the test with nothing earlier than the row
   whole : (i : ℕ) → test_in r [] ids i ≡ is_unsound r (take i ids) (id_at ids i)
-  whole i = ap (λ (earlier : List ℕ). is_unsound r earlier (id_at ids i)) (append_nil (take i ids))
+  whole i = ap (λ (earlier : List ℕ). is_unsound r earlier (id_at ids i)) (append-nil (take i ids))
 
   sound : (i : ℕ) → i < length ids → test_in r [] ids i ≡ false → Unsound r ids i → ⊥
   sound i inside e unsound = true≢false (sym (whole i ∙ to-test i inside unsound) ∙ e)

@@ -16,7 +16,7 @@ use Rattle.ledger.specs.Polling.{frame_bytes}
 use Rattle.ledger.specs.Runs.{Entry}
 use Rattle.claims.specs.Trace.{Asked, id_in, asked_as, ending_in, frame_in, named_by, last_or, last_asked, owner, is_at, endings, frames, without, live_after, requests}
 use Rattle.ledger.proofs.Cases.{by_test}
-use Rattle.claims.proofs.Lists.{append_nil}
+use Rattle.claims.proofs.Lists.{append-nil}
 
 pub some_same : {x y : Asked} → some x ≡ some y → x ≡ y
 some_same h = cc
@@ -119,7 +119,7 @@ module _ (e : Entry) (h : List Entry) where
   pub live_ends : {x : Ending} {a : Asked} → id_in e.answer ≡ none → ending_in e.answer ≡ some x → last_asked x.id h ≡ some a
       → live_after (e ∷ h) ≡ without (some a) (live_after h)
   unfolding live_after
-  live_ends {x} {a} asked shown last = rw (asked, shown, last) (append_nil (without (some a) (live_after h)))
+  live_ends {x} {a} asked shown last = rw (asked, shown, last) (append-nil (without (some a) (live_after h)))
 
 keeps_all : (live : List Asked) → without none live ≡ live
 unfolding without
@@ -129,7 +129,7 @@ keeps_all (a ∷ rest) = ap (a ∷◌) (keeps_all rest)
 module _ (e : Entry) (h : List Entry) where
   pub live_stays : id_in e.answer ≡ none → ending_in e.answer ≡ none → live_after (e ∷ h) ≡ live_after h
   unfolding live_after
-  live_stays asked shown = rw (asked, shown) (append_nil (without none (live_after h)) ∙ keeps_all (live_after h))
+  live_stays asked shown = rw (asked, shown) (append-nil (without none (live_after h)) ∙ keeps_all (live_after h))
 
   pub live_joins : {i : ℕ} → id_in e.answer ≡ some i → ending_in e.answer ≡ none
       → live_after (e ∷ h) ≡ live_after h ++ (asked_as e (length h) i ∷ [])
@@ -138,7 +138,7 @@ module _ (e : Entry) (h : List Entry) where
 
   pub requests_stay : id_in e.answer ≡ none → requests (e ∷ h) ≡ requests h
   unfolding requests
-  requests_stay asked = rw asked (append_nil (requests h))
+  requests_stay asked = rw asked (append-nil (requests h))
 
   pub requests_join : {i : ℕ} → id_in e.answer ≡ some i → requests (e ∷ h) ≡ requests h ++ (asked_as e (length h) i ∷ [])
   unfolding requests

@@ -2,7 +2,7 @@
 -- (laws of the line, call by call), and every other call leaves what is held and takes nothing.
 use Prim.Native.Nat.{ℕ}
 use mathlib.Core.Bool.{cond as if}
-use mathlib.Core.List.{List, [], ◌∷◌, ◌++◌, map, append_assoc, append_nil, map-append}
+use mathlib.Core.List.{List, [], ◌∷◌, ◌++◌, map, append_assoc, append-nil, map-append}
 use mathlib.Core.Option.{Option, none, some}
 use mathlib.Core.Path.{◌≡◌, refl, sym, ap, ◌∙◌}
 use native.Mathlib.Omega.{arith}
@@ -37,8 +37,8 @@ calm : (e : Entry) (past : List Entry) (kept : List ℕ) → (numbers_of e.answe
 unfolding bytes_taken items_answered last_receive
 calm e past kept no_bytes no_item same h = record {
   items = h.items;
-  answered = simp (no_item, append_nil) h.answered;
-  whole = simp (no_bytes, append_nil) h.whole;
+  answered = simp (no_item, append-nil) h.answered;
+  whole = simp (no_bytes, append-nil) h.whole;
   rests = λ last. h.rests (sym (same (last_receive past)) ∙ last);
 }
 
@@ -61,7 +61,7 @@ module _ (past : List Entry) (l : Ledger) (bytes reply buffer : List ℕ) (t : �
   unfolding bytes_taken items_answered last_receive
   hears-receive does more said = record {
     items = h.items;
-    answered = rw (said, append_nil (items_answered past)) h.answered;
+    answered = rw (said, append-nil (items_answered past)) h.answered;
     whole = next-joined (handed r.held [])
         (taken_handed l.held bytes ∙ rw said (sym (more_rests l.held bytes said)));
     rests = λ last. more_rests l.held bytes said;
@@ -140,7 +140,7 @@ pub all_answered : (limit given : ℕ) (cs : List Call) → last_receive (run li
 all_answered limit given cs last =
     let h = hears limit given cs in
     let rests = h.rests last in
-    record { items = rw (h.whole, rests, append_nil h.items) h.answered; held = rw (h.whole, rests) }
+    record { items = rw (h.whole, rests, append-nil h.items) h.answered; held = rw (h.whole, rests) }
 
 -- and they depend on the bytes alone
 pub alike : (past other : List Entry) (kept otherKept : List ℕ) → HeardAll past kept → HeardAll other otherKept

@@ -39,9 +39,9 @@ module _ {A : Type 0} where
   in_left x (y ∷ xs) ys here = here
   in_left x (y ∷ xs) ys (there m) = there (in_left x xs ys m)
 
-  pub append_nil : (xs : List A) → xs ++ [] ≡ xs
-  append_nil [] = refl
-  append_nil (x ∷ xs) = ap (x ∷◌) (append_nil xs)
+  pub append-nil : (xs : List A) → xs ++ [] ≡ xs
+  append-nil [] = refl
+  append-nil (x ∷ xs) = ap (x ∷◌) (append-nil xs)
 
   pub append_append : (xs ys zs : List A) → (xs ++ ys) ++ zs ≡ xs ++ (ys ++ zs)
   append_append [] ys zs = refl

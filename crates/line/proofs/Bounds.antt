@@ -1,7 +1,7 @@
 -- What is held is within the limit, and every byte that is taken is dropped, removed or held.
 use Prim.Native.Nat.{ℕ, zero, suc, ◌+◌, ◌≤◌, ◌<◌}
 use mathlib.Core.Bool.{Bool, true, false, true≢false}
-use mathlib.Core.List.{List, ◌++◌, append_assoc, append_nil}
+use mathlib.Core.List.{List, ◌++◌, append_assoc, append-nil}
 use mathlib.Core.Path.{◌≡◌, refl, sym, ap, ◌∙◌}
 use native.Mathlib.Omega.{arith}
 use lib.Dec.{leb}
@@ -81,7 +81,7 @@ module _ (n : ℕ) (again : (held piece : List ℕ) → size held piece < n
       → held ++ piece ≡ went_in (suc n) held piece ++ (handed_in (suc n) held piece).held
   unfolding went_in handed_in
   accounts-by held piece (got_more {e} h got-it) few =
-      rw (got-it, take-length piece, h, append_nil (take e (held ++ piece))) (sym (take-append-drop e (held ++ piece)))
+      rw (got-it, take-length piece, h, append-nil (take e (held ++ piece))) (sym (take-append-drop e (held ++ piece)))
   accounts-by held piece (got_item {i} {d} {r} t within h none got-it) few =
       let looked = held ++ take t piece in
       let shrinks = item_shrinks held piece t within h in

@@ -1,7 +1,7 @@
 -- Handing in call by call: the bytes that a call takes decide as all of its bytes do, and each call goes on where the one before it
 -- stopped.
 use Prim.Native.Nat.{ℕ, ◌≤◌}
-use mathlib.Core.List.{List, [], ◌++◌, append_assoc, append_nil}
+use mathlib.Core.List.{List, [], ◌++◌, append_assoc, append-nil}
 use mathlib.Core.Path.{◌≡◌, sym, ap, ◌∙◌}
 use native.Mathlib.Omega.{arith}
 use lib.ListN.{length, take, drop, length-take, drop_of_length-le}
@@ -32,7 +32,7 @@ rests_by : (held new : List ℕ) → Got held new → (receive held new).answer 
 rests_by held new (got_more {e} h got-it) said =
     let rest = drop e (held ++ new) in
     let waits = left_waits (held ++ new) h in
-    let same = append_nil rest in
+    let same = append-nil rest in
     rw (got-it, h) (handed_step rest [] ∙ rw (at_more rest [] (rw same (ap decides waits)), same, waits))
 rests_by held new (got_item k within h none got-it) said =
     let told : ◌≡◌ {A = Answer} (item _) more = rw (got-it, h) at said in

@@ -1,6 +1,6 @@
 -- Held bytes that decide nothing: those that are dropped go, and the others receive the same.
 use Prim.Native.Nat.{ℕ, ◌+◌, ◌≤◌}
-use mathlib.Core.List.{List, [], append_nil}
+use mathlib.Core.List.{List, [], append-nil}
 use mathlib.Core.Path.{◌≡◌, sym, ap, ◌∙◌}
 use native.Mathlib.Omega.{arith}
 use lib.ListN.{length, take, drop, drop_of_length-le}
@@ -22,7 +22,7 @@ pub left_waits : (xs : List ℕ) {d : ℕ} → scan xs ≡ undecided d → scan 
 left_waits xs {d} h =
     let same : d ≡ dropped xs = (undecided_left xs h).0 in
     let joined : scan xs ≡ later d (scan (drop d xs)) =
-    rw same (rw (append_nil xs, append_nil (drop (dropped xs) xs)) at (scan_joined xs [])) in
+    rw same (rw (append-nil xs, append-nil (drop (dropped xs) xs)) at (scan_joined xs [])) in
     left_by d (scan (drop d xs)) (sym h ∙ joined)
 
 -- and receives the same

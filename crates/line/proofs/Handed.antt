@@ -1,6 +1,6 @@
 -- A piece handed in, its untaken rest again, until *more*: each item removes bytes, so it comes to an end, and cuts change nothing.
 use Prim.Native.Nat.{ℕ, zero, suc, ◌+◌, ◌≤◌, ◌<◌}
-use mathlib.Core.List.{List, [], ◌∷◌, ◌++◌, append_nil}
+use mathlib.Core.List.{List, [], ◌∷◌, ◌++◌, append-nil}
 use mathlib.Core.Path.{◌≡◌, refl, sym, ap, ◌∙◌}
 use native.Mathlib.Omega.{arith}
 use lib.ListN.{length, take, drop, length-append, length-drop}
@@ -94,7 +94,7 @@ handed_joined held a b = joined_within b (suc (size held a)) held a (omega arith
 pub each_joined : (held piece : List ℕ) (pieces : List (List ℕ)) → handed_each held (piece ∷ pieces)
     ≡ handed held (joined (piece ∷ pieces))
 unfolding handed_each joined
-each_joined held piece [] = rw (append_nil piece, append_nil (handed held piece).items)
+each_joined held piece [] = rw (append-nil piece, append-nil (handed held piece).items)
 each_joined held piece (next ∷ pieces) =
     ap (before (handed held piece).items) (each_joined (handed held piece).held next pieces)
     ∙ sym (handed_joined held piece (joined (next ∷ pieces)))

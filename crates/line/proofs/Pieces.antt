@@ -2,7 +2,7 @@
 -- first piece this is a message in one.
 use Prim.Native.Nat.{ℕ, ◌+◌, ◌<◌}
 use mathlib.Core.Bool.{true, false, true≢false}
-use mathlib.Core.List.{List, [], ◌++◌, append_nil}
+use mathlib.Core.List.{List, [], ◌++◌, append-nil}
 use mathlib.Core.Path.{◌≡◌, refl, sym, ap, ◌∙◌}
 use native.Mathlib.Omega.{arith}
 use lib.ListN.{length, drop, length-append, drop_of_length-le}
@@ -29,10 +29,10 @@ module _ (type seq : ℕ) (payload first second : List ℕ) (fine : allowed type
   lengths = sym (length-append first second) ∙ ap length cut ∙ length_message type seq payload
 
   both-decide : scan (first ++ second) ≡ decided (items.message type seq (length payload)) 0 (total (length payload))
-  both-decide = rw (cut, ← append_nil (message type seq payload)) (scan_message type seq payload [] fine)
+  both-decide = rw (cut, ← append-nil (message type seq payload)) (scan_message type seq payload [] fine)
 
   both_hold : payload_of (first ++ second) ≡ payload
-  both_hold = rw (cut, ← append_nil (message type seq payload)) (payload_of_message type seq payload [] fine)
+  both_hold = rw (cut, ← append-nil (message type seq payload)) (payload_of_message type seq payload [] fine)
 
   -- the second piece
   pub last_piece : receive first second

@@ -1,7 +1,7 @@
 -- What a call gives, from what the six rules say of the bytes it looks at: the cases that code and laws cite.
 use Prim.Native.Nat.{ℕ, zero, suc, ◌+◌, ◌-◌, ◌≤◌, ◌<◌}
 use mathlib.Core.Bool.{true, false, true≢false}
-use mathlib.Core.List.{List, [], ◌∷◌, ◌++◌, append_assoc, append_nil}
+use mathlib.Core.List.{List, [], ◌∷◌, ◌++◌, append_assoc, append-nil}
 use mathlib.Core.Path.{◌≡◌, refl, sym, ap, ◌∙◌}
 use native.Mathlib.Nat.{zero-add}
 use native.Mathlib.Omega.{arith}
@@ -77,8 +77,8 @@ at_last held new none =
 -- the held bytes decide an item alone
 pub at_held : (held new : List ℕ) → decides (scan held) ≡ true → receive held new ≡ received_from held 0
 at_held held new here =
-    rw (append_nil held) at
-    (receive_at held new 0 (omega arith) (λ h. rw (append_nil held) here) (λ j h. absurd (omega arith)))
+    rw (append-nil held) at
+    (receive_at held new 0 (omega arith) (λ h. rw (append-nil held) here) (λ j h. absurd (omega arith)))
 
 -- an item that the last of k new bytes decides
 pub at_item : (held new : List ℕ) (k : ℕ) {i : Item} {d r : ℕ} → k ≤ length new → scan (held ++ take k new) ≡ decided i d r

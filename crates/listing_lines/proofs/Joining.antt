@@ -1,7 +1,7 @@
 -- Lines that wait: whether there is room for one more, from a buffer's numbers; and no line is lost.
 use Prim.Native.Nat.{ℕ, ◌+◌, ◌≤◌, ◌<◌}
 use mathlib.Core.Bool.{Bool, true, false}
-use mathlib.Core.List.{List, [], ◌∷◌, ◌++◌, append_assoc, append_nil}
+use mathlib.Core.List.{List, [], ◌∷◌, ◌++◌, append_assoc, append-nil}
 use mathlib.Core.Path.{◌≡◌, refl, sym, ap, ◌∙◌}
 use lib.ListN.{length, take}
 use lib.Seq.{length-take-le}
@@ -28,7 +28,7 @@ one_by room waiting item false h = rw h
 pub nothing_lost : (room : ℕ) (waiting : List ℕ) (items : List Item)
     → writes_after room waiting items ++ waits_after room waiting items ≡ waiting ++ lines_of items
 unfolding writes_after waits_after lines_of
-nothing_lost room waiting [] = sym (append_nil waiting)
+nothing_lost room waiting [] = sym (append-nil waiting)
 nothing_lost room waiting (item ∷ items) =
     append_assoc (writes room waiting) _ _
     ∙ ap (λ (l : List ℕ). writes room waiting ++ l) (nothing_lost room (waits room waiting item) items)

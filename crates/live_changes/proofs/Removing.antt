@@ -1,6 +1,6 @@
 -- A list without the element at a place: those after it are moved up one by one, and the last one is cut off.
 use Prim.Native.Nat.{ℕ, suc, ◌<◌}
-use mathlib.Core.List.{List, [], ◌∷◌, ◌++◌, append_assoc, append_nil}
+use mathlib.Core.List.{List, [], ◌∷◌, ◌++◌, append_assoc, append-nil}
 use mathlib.Core.Path.{◌≡◌}
 use native.Mathlib.Omega.{arith}
 use lib.ListN.{length, take, drop, get_or, set, drop_of_length-le}
@@ -18,4 +18,4 @@ module _ {A : Type 0} where
       (append_assoc (take i l) (a ∷ []) (drop (suc (suc i)) l))
 
   pub removed_last : (l : List A) (n : ℕ) → length l ≡ suc n → removed n l ≡ take n l
-  removed_last l n long = rw (drop_of_length-le l {i = suc n} (omega arith), append_nil)
+  removed_last l n long = rw (drop_of_length-le l {i = suc n} (omega arith), append-nil)

@@ -1,6 +1,6 @@
 -- Laws of bytes placed in a buffer: its length, what a loan from the middle leaves, and neighbours. Every writer cites them.
 use Prim.Native.Nat.{ℕ, ◌+◌, ◌-◌, ◌≤◌}
-use mathlib.Core.List.{List, [], ◌++◌, append_assoc, append_nil}
+use mathlib.Core.List.{List, [], ◌++◌, append_assoc, append-nil}
 use mathlib.Core.Path.{◌≡◌, refl, sym, ap, ◌∙◌}
 use native.Mathlib.Nat.{add-zero, zero-add}
 use native.Mathlib.Omega.{arith}
@@ -59,7 +59,7 @@ lent a i m l fits =
     let end : drop (length l - a) (drop a l) ≡ [] = drop_of_length-le (drop a l) {i = length l - a}
     (simp length-drop (omega arith)) in
     let sum : a + (i + length m) ≡ a + i + length m = omega arith in
-    simp (tail a l, end, append_nil, append_assoc, take-add a i l, drop-drop (i + length m) a l, sum)
+    simp (tail a l, end, append-nil, append_assoc, take-add a i l, drop-drop (i + length m) a l, sum)
 
 pub lent_front : (a : ℕ) (m l : List ℕ) → a + length m ≤ length l
     → given_back a l (placed 0 m (lent_from a l)) ≡ placed a m l

@@ -1,6 +1,6 @@
 -- `line_joining::join` meets its contract: the start of a header is held, or a whole one that waits.
 use Prim.Native.Nat.{ℕ, ◌+◌, ◌-◌, ◌≤◌}
-use mathlib.Core.List.{List, ◌++◌, append_nil}
+use mathlib.Core.List.{List, ◌++◌, append-nil}
 use mathlib.Core.Path.{◌≡◌, ◌∙◌}
 use native.Mathlib.Omega.{arith}
 use lib.ListN.{length, take, drop, take-append-drop}
@@ -14,7 +14,7 @@ use Rattle.line_joining.proofs.join.Goals as goal
 -- a header that is held whole needs no new byte
 module _ (from kept : ℕ) (array new : List ℕ) (whole : header_length ≤ kept) (within : from + kept ≤ length array) where
   no-new : take kept (drop from array) ++ take (header_length - kept) new ≡ take kept (drop from array)
-  no-new = let none : header_length - kept ≡ 0 = omega arith in rw none (append_nil (take kept (drop from array)))
+  no-new = let none : header_length - kept ≡ 0 = omega arith in rw none (append-nil (take kept (drop from array)))
 
   waits : scan (take kept (drop from array)) ≡ undecided 0 → scan (take kept (drop from array) ++ take (header_length - kept) new)
       ≡ undecided 0

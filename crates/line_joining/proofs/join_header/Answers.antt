@@ -1,6 +1,6 @@
 -- `line_joining::join_header` meets its contract: one part behind the other.
 use Prim.Native.Nat.{ℕ, ◌+◌, ◌-◌}
-use mathlib.Core.List.{List, [], ◌++◌, append_nil}
+use mathlib.Core.List.{List, [], ◌++◌, append-nil}
 use mathlib.Core.Path.{◌≡◌, refl, ◌∙◌}
 use native.Mathlib.Omega.{arith}
 use lib.ListN.{length, take, drop, length-append, length-drop, drop_of_length-le}
@@ -22,7 +22,7 @@ two_parts a b z x y sum zeros one two =
     let put = copied (length a) b x y (omega arith) (rw size two) in
     let front : take (length a) x ≡ a = rw first (take_at a (drop (length a) z) (length a) refl) in
     let end : drop (length a + length b) x ≡ [] = drop_of_length-le x {i = length a + length b} (omega arith) in
-    rw size at put ∙ rw (front, end, append_nil b)
+    rw size at put ∙ rw (front, end, append-nil b)
 
 pub returns : goal.returns
 returns c =

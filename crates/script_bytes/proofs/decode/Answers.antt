@@ -1,5 +1,5 @@
 -- `script_bytes::decode` meets its contract. The invariant: the bytes so far, with those of the rest, are those of the whole.
-use mathlib.Core.List.{append_nil}
+use mathlib.Core.List.{append-nil}
 use mathlib.Core.Path.{refl}
 use native.Mathlib.Omega.{arith}
 use lib.ListN.{length-take, length-drop, length-set}
@@ -40,4 +40,4 @@ loop-rest-preserved c =
 pub returns : goal.returns
 returns c =
     let loop = c.loop-rest in
-    (omega arith, λ h. rw (bytes_end loop.rest.now c.loop-rest-test.false, append_nil) at loop.invariant.2)
+    (omega arith, λ h. rw (bytes_end loop.rest.now c.loop-rest-test.false, append-nil) at loop.invariant.2)

@@ -1,6 +1,6 @@
 -- `texts::put_pairs` meets its contract. The invariant: what was put, with the pairs of the rest, is the whole.
 use Prim.Native.Nat.{◌+◌, ◌*◌}
-use mathlib.Core.List.{◌++◌, append_nil}
+use mathlib.Core.List.{◌++◌, append-nil}
 use mathlib.Core.Path.{◌≡◌, refl}
 use native.Mathlib.Omega.{arith}
 use lib.ListN.{length, take, length-take, length-drop}
@@ -57,7 +57,7 @@ same_length c = c.before.loop.invariant.1
 returns : tie.Need-returns invariant-loop decreases-loop
 returns c = let none = c.loop-test.false in record {
   within = omega arith;
-  reads = rw (pairs_end c.before.loop.rest.now none, append_nil) at c.before.loop.invariant.2;
+  reads = rw (pairs_end c.before.loop.rest.now none, append-nil) at c.before.loop.invariant.2;
 }
 
 pub put-pairs-spec : {M : Type 1} → statement M
