@@ -1,20 +1,15 @@
 -- `live_changes::without` meets its contract. The invariant: without the request in row i, the live requests are those that stay.
 use Prim.Native.Nat.{◌+◌, ◌-◌}
-use mathlib.Core.Path.{◌≡◌, refl, sym, ◌∙◌}
+use mathlib.Core.Path.{refl}
 use native.Mathlib.Omega.{arith}
-use lib.ListN.{length, length-map}
-use Rattle.ledger.specs.Parts.{live_max}
 use Rattle.live_changes.proofs.Becoming.{len_at, none_moved, one_moved, all_moved}
 use Rattle.live_changes.proofs.without.Goals as goal
-
-full : (c : tie.Start invariant-loop decreases-loop) → length c.args.live.rows ≡ live_max
-full c = sym (length-map c.args.live.rows _) ∙ c.well-formed.0.1.1.0.1.0.1
 
 pub loop-i-init : goal.loop-i-init
 loop-i-init c =
     let a = c.args in
     let p = c.requires in
-    none_moved a.live a.store.now a.row (full c) p.1 p.0 p.2
+    none_moved a.live a.store.now a.row c.well_formed.0.1.1.0.1.0.1 p.1 p.0 p.2
 
 pub move_up-requires : goal.move_up-requires
 move_up-requires c =

@@ -1,28 +1,24 @@
 -- `live_search::find` meets its contract. The loop's invariant: no row passed shows what is looked for, so that the first that does
 -- is in what is left. The measure is how many rows are left.
 use Prim.Native.Nat.{◌-◌}
-use mathlib.Core.Path.{◌≡◌, sym, ◌∙◌}
+use mathlib.Core.Path.{sym, ◌∙◌}
 use native.Mathlib.Omega.{arith}
-use lib.ListN.{length, length-map}
 use Rattle.live_search.proofs.Turns.{find_here, find_on, find_end}
 use Rattle.live_search.proofs.find.Goals as goal
-
-three : (c : tie.Start invariant-loop decreases-loop) → length c.args.t1.rows ≡ 3
-three c = sym (length-map c.args.t1.rows _) ∙ c.well-formed.0.1.1.0.1.0.1
 
 pub returns-then-is_shown : goal.returns-then-is_shown
 returns-then-is_shown c =
     let turn = c.loop-i in
-    find_here c.args.t1 (three c) c.requires turn.i _ turn.invariant.1 (omega arith) (sym c.is_shown.ensures ∙ c.if-is_shown.true)
+    find_here c.args.live c.well_formed.0.1.1.0.1.0.1 c.requires turn.i _ turn.invariant.1 (omega arith) (sym c.is_shown.ensures ∙ c.if-is_shown.true)
 
 pub loop-i-preserved : goal.loop-i-preserved
 loop-i-preserved c =
     let turn = c.loop-i in (
       omega arith,
-      find_on c.args.t1 (three c) c.requires turn.i _ turn.invariant.1 (omega arith) (sym c.is_shown.ensures ∙ c.if-is_shown.false),
+      find_on c.args.live c.well_formed.0.1.1.0.1.0.1 c.requires turn.i _ turn.invariant.1 (omega arith) (sym c.is_shown.ensures ∙ c.if-is_shown.false),
     )
 
 pub returns : goal.returns
 returns c =
     let turn = c.loop-i in
-    find_end c.args.t1 (three c) c.requires turn.i _ turn.invariant.1 (omega arith)
+    find_end c.args.live c.well_formed.0.1.1.0.1.0.1 c.requires turn.i _ turn.invariant.1 (omega arith)

@@ -5,13 +5,16 @@ use mathlib.Core.Path.{◌≡◌, refl, sym, ◌∙◌}
 use native.Mathlib.Numerals.{add-one}
 use native.Mathlib.Omega.{arith}
 use lib.ListN.{length, get_or, set, length-set}
-use Rattle.live_changes.proofs.Moving.{pulled_none, pulled_next}
+use Rattle.live_changes.proofs.Moving.{pulled, pulled_none, pulled_next}
 use Rattle.live_changes.proofs.rooms.move_up.Goals as goal
+
+-- what the loop knows when so many are moved
+abbrev Moved : (l : List ℕ) (len to from : ℕ) (a : List ℕ) (i : ℕ) → Type 0
+Moved l len to from a i = (i ≤ len) × (length a ≡ length l) × (a ≡ pulled to from i l)
 
 -- one byte more
 step : (l : List ℕ) (len to from : ℕ) (a : List ℕ) (i : ℕ) → i < len → to ≤ from → from + len ≤ length l
-    → invariant-loop l 0 len to from 0 a i
-    → invariant-loop l 0 len to from 0 (set a (to + i) (get_or a (from + i) 0)) (i + 1)
+    → Moved l len to from a i → Moved l len to from (set a (to + i) (get_or a (from + i) 0)) (i + 1)
 step l len to from a i more up within inv = (
   omega arith,
   length-set a (to + i) (get_or a (from + i) 0) ∙ inv.1,

@@ -5,14 +5,12 @@ use mathlib.Core.Path.{◌≡◌, refl, sym, ap, ◌∙◌}
 use native.Mathlib.Omega.{arith}
 use lib.ListN.{length, take, drop, length-drop}
 use lib.Seq.{length-take-le}
-use borrow.Author.Rules.{rules}
 use Rattle.line.specs.Promises.{Decides, Receives, answer_of}
 use Rattle.line.specs.Receiving.{held_max}
 use Rattle.line.specs.Receiving as spec
 use Rattle.line.specs.declared.Decision.{Decision}
 use Rattle.line.specs.declared.Received.{Received}
-use Rattle.line_receiving.proofs.receive_in.Statement.{statement}
-use Rattle.line_receiving.proofs.receive_in.Tie as tie
+use Rattle.line_receiving.proofs.receive_in.Goals as goal
 
 settled : (d : Decision) (r : Received) (held new middle exit : List ℕ) → length middle ≡ held_max → Decides d held new middle
     → r.answer ≡ d.answer → r.taken ≡ d.taken → r.count ≡ d.count
@@ -30,21 +28,9 @@ settled d r held new middle exit size p answer taken count stands =
       within = omega (arith, p.within);
     }
 
-decide-requires : tie.Need-decide-requires
-decide-requires c κs = search rules
-
-settle-requires : tie.Need-settle-requires
-settle-requires c κs = search rules
-
-same_length : tie.Need-same-length
-same_length c = search rules
-
-returns : tie.Need-returns
+pub returns : goal.returns
 returns c =
-    settled c.before.before.before.before.before.before.decide.result _ _ _
-    c.before.before.before.before.before.before.decide.new.0 _ (omega arith)
-    c.before.before.before.before.before.before.decide.ensures refl refl c.before.before.settle.ensures.0
-    c.before.before.settle.ensures.1
-
-pub receive-in-spec : {M : Type 1} → statement M
-receive-in-spec = tie.close (tie.spec decide-requires settle-requires same_length returns)
+    settled c.decide-decision.result _ _ _
+    c.decide-decision.new.0 _ (omega arith)
+    c.decide-decision.ensures refl refl c.settle-count.ensures.0
+    c.settle-count.ensures.1

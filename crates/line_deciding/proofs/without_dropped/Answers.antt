@@ -1,0 +1,60 @@
+-- `line_deciding::without_dropped` meets its contract: what is left receives the same, or plays no part.
+use Prim.Native.Nat.{◌-◌}
+use mathlib.Core.Path.{sym, ◌∙◌}
+use native.Mathlib.Omega.{arith}
+use lib.ListN.{take, drop}
+use Rattle.line.proofs.Dropped.{drops, all_dropped, waits, receives}
+use Rattle.line.proofs.Moving.{length_part}
+use Rattle.line.proofs.Start.{decides_same, broken}
+use Rattle.line_deciding.proofs.without_dropped.Goals as goal
+
+pub overflow_sub-kept : goal.overflow_sub-kept
+overflow_sub-kept c =
+    let p = c.requires in
+    let a = c.args in
+    drops a.count a.dropped a.array.now p.0 p.1 p.2
+
+pub returns-then-kept-eq0 : goal.returns-then-kept-eq0
+returns-then-kept-eq0 c =
+    let p = c.requires in
+    let a = c.args in
+    let le = drops a.count a.dropped a.array.now p.0 p.1 p.2 in
+    decides_same
+    (all_dropped a.count a.dropped a.array.now p.0 p.1 p.2 a.new.now (omega (arith, le)))
+    c.in_new.ensures
+
+pub returns-then-breaks_syn : goal.returns-then-breaks_syn
+returns-then-breaks_syn c =
+    let p = c.requires in
+    let a = c.args in
+    let le = drops a.count a.dropped a.array.now p.0 p.1 p.2 in
+    let kept = a.count - a.dropped in
+    let held = take kept (drop a.dropped a.array.now) in
+    let size = length_part a.dropped kept a.array.now (omega (arith, le)) in
+    decides_same
+    (receives a.count a.dropped a.array.now p.0 p.1 p.2 kept (omega (arith, le)) a.new.now
+    ∙ broken kept held a.new.now size (sym c.breaks_syn.ensures
+    ∙ c.if-breaks_syn.true))
+    c.in_new-then-breaks_syn.ensures
+
+pub join-requires : goal.join-requires
+join-requires c =
+    let p = c.requires in
+    let a = c.args in
+    let le = drops a.count a.dropped a.array.now p.0 p.1 p.2 in (
+      p.0,
+      omega (arith, le),
+      omega arith,
+      waits a.count a.dropped a.array.now p.0 p.1 p.2 (a.count - a.dropped) (omega (arith, le)),
+      sym c.breaks_syn.ensures ∙ c.if-breaks_syn.false,
+    )
+
+pub returns : goal.returns
+returns c =
+    let p = c.requires in
+    let a = c.args in
+    let le = drops a.count a.dropped a.array.now p.0 p.1 p.2 in
+    decides_same
+    (receives a.count a.dropped a.array.now p.0 p.1 p.2 (a.count - a.dropped) (omega (arith, le))
+    a.new.now)
+    c.join.ensures
