@@ -1,4 +1,3 @@
-mod Arrays
 mod RecordWalks
 pub mod LiveIds
 pub mod Laws

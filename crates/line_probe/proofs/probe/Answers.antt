@@ -6,14 +6,12 @@ use mathlib.Core.Path.{◌≡◌}
 use native.Mathlib.Omega.{arith}
 use lib.Dec.{eqb}
 use lib.ListN.{length, take}
-use borrow.Author.Rules.{rules}
 use borrow.Author.Tests.{eq-eqb, ne_eqb, le-leb, lt-leb}
 use Rattle.line.specs.Promises.{answer_of, Receives}
 use Rattle.line.specs.Receiving.{held_max}
 use Rattle.line.specs.declared.Received.{Received}
 use Rattle.line_probe.specs.Numbers.{Numbers, numbers, numbers_of, usable, Probed}
-use Rattle.line_probe.proofs.probe.Statement.{statement}
-use Rattle.line_probe.proofs.probe.Tie as tie
+use Rattle.line_probe.proofs.probe.Goals as goal
 
 -- the number 1, and the array as it was
 left : (n : Numbers) (count : ℕ) (new entry : List ℕ) → usable entry count ≡ false → n ≡ numbers 1 0 0 0 0 0
@@ -29,50 +27,22 @@ called n r count new entry exit line h p = record {
   leaves = rw (line, ← p.counts) p.holds;
 }
 
-refused-requires : tie.Need-refused-requires
-refused-requires c κs = search rules
-
-returns : tie.Need-returns
-returns c =
-    let a = c.before.before.before.before.args in
+pub returns-then-array-ne-HELD_MAX : goal.returns-then-array-ne-HELD_MAX
+returns-then-array-ne-HELD_MAX c =
+    let a = c.args in
     left _ a.count a.new.now a.array.now (rw (ne_eqb (length a.array.now) held_max (omega arith)))
     c.refused.ensures
 
-refused-requires-2 : tie.Need-refused-requires-2
-refused-requires-2 c κs = search rules
-
-returns-2 : tie.Need-returns-2
-returns-2 c =
-    let a = c.before.before.before.before.before.args in
+pub returns-then-count-gt-HELD_MAX : goal.returns-then-count-gt-HELD_MAX
+returns-then-count-gt-HELD_MAX c =
+    let a = c.args in
     left _ a.count a.new.now a.array.now
     (rw (lt-leb a.count held_max (omega arith), and-false (eqb (length a.array.now) held_max)))
-    c.refused2.ensures
+    c.refused-then-count-gt-HELD_MAX.ensures
 
-receive-in-requires : tie.Need-receive-in-requires
-receive-in-requires c κs = search rules
-
-of-received-requires : tie.Need-of-received-requires
-of-received-requires c κs = search rules
-
-same_length : tie.Need-same-length
-same_length c = search rules
-
-returns-3 : tie.Need-returns-3
-returns-3 c =
-    let a = c.before.before.before.before.before.before.before.before.before.args in
-    called _ c.before.before.before.receive-in.result a.count a.new.now a.array.now _
+pub returns : goal.returns
+returns c =
+    let a = c.args in
+    called _ c.receive_in-received.result a.count a.new.now a.array.now _
     (rw (eq-eqb (length a.array.now) held_max (omega arith), le-leb a.count held_max (omega arith)))
-    c.of-received.ensures c.before.before.before.receive-in.ensures
-
-pub probe-spec : {M : Type 1} → statement M
-probe-spec =
-    tie.close
-    (tie.spec
-    refused-requires
-    returns
-    refused-requires-2
-    returns-2
-    receive-in-requires
-    of-received-requires
-    same_length
-    returns-3)
+    c.of_received.ensures c.receive_in-received.ensures
