@@ -20,3 +20,38 @@ returns-in_default c =
           c.only.ensures,
       only_names c.only.ensures a.live.count,
     )
+
+pub returns-then-is_event : goal.returns-then-is_event
+returns-then-is_event c =
+    let it : Command = record { fields = c.in-Command.fields; id = c.in-Command.id; len = length c.data-len.result.now } in
+    let told : let payload = c.args.payload.now in
+    (is_command payload ≡ true) × (command_of it ≡ command_in payload) = read_command c.args.payload.now
+    c.read-reading.ensures
+    it
+    c.in-Command.is
+    (ap length c.data-len.ensures) in (
+      λ l clock store same r.
+          let a = c.args in
+          data_event l clock a.payload.now a.seen told r
+          (sym c.is_event.ensures ∙ c.if-is_event.true)
+          c.only-then-is_event.ensures,
+      only_names c.only-then-is_event.ensures c.args.live.count,
+    )
+
+pub returns : goal.returns
+returns c =
+    let it : Command = record { fields = c.in-Command.fields; id = c.in-Command.id; len = length c.data-len.result.now } in
+    let told : let payload = c.args.payload.now in
+    (is_command payload ≡ true) × (command_of it ≡ command_in payload) = read_command c.args.payload.now
+    c.read-reading.ensures
+    it
+    c.in-Command.is
+    (ap length c.data-len.ensures) in (
+      λ l clock store same r.
+          let a = c.args in
+          data_other l clock a.payload.now a.seen told r
+          (sym c.is_event.ensures ∙ c.if-is_event.false)
+          c.on_response.result
+          (c.on_response.ensures.0 l clock store a.payload.now same),
+      c.on_response.ensures.1,
+    )
