@@ -230,6 +230,7 @@ start_timed limit given =
 -- the request of the ledger that a live request of the list is
 owned : (h : List Entry) (live : List Asked) (qs : List Request) (a : Asked) → a ∈ live → Owners h live qs
     → (q : Request) × Own h a q × q ∈ qs
+owned h [] qs a among own = elim among [ ]
 owned h (x ∷ live) (q ∷ qs) a here own = (q, own.0, here)
 owned h (x ∷ live) [] a here own = absurd own
 owned h (x ∷ live) (q ∷ qs) a (there among) own = let rest = owned h live qs a among own.1 in (rest.0, rest.1, there rest.2)

@@ -189,6 +189,7 @@ module _ (limit t : ℕ) (accepted : Request → ℕ) where
       go (in_flight f) e marks = lightly e (lighter l q h.base (accepted q) marks h.later flown)
       go (in_flight f) e (sends_again late may) = lightly e (lighter l q h.base (accepted q) (sends_again late may)
           h.later flown)
+      go (waiting since) e moves = elim moves [ ]
 
   -- how many are queued
   queuedOnce : State → ℕ

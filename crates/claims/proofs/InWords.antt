@@ -58,6 +58,7 @@ alike_first fs f g h here = refl
 alike_first fs f g h (there m) = all_of (λ x. x ≡ f) fs h g m
 
 any_two : (fs : List (List ℕ)) → Alike fs → (f g : List ℕ) → f ∈ fs → g ∈ fs → f ≡ g
+any_two [] h f g m n = elim m [ ]
 any_two (x ∷ fs) h f g m n = alike_first fs x f h m ∙ sym (alike_first fs x g h n)
 
 -- no two of a list

@@ -1,5 +1,4 @@
 -- Properties of every element of a list, and of lists put together.
-use Prim.Native.Nat.{◌+◌}
 use mathlib.Core.List.{List, [], ◌∷◌, ◌++◌}
 use mathlib.Core.Path.{◌≡◌, refl, ap}
 use lib.ListN.{length, take}
@@ -8,6 +7,7 @@ use Rattle.claims.specs.Clauses.{◌∈◌, here, there}
 
 module _ {A : Type 0} where
   pub all_of : (P : A → Type 0) (xs : List A) → All P xs → (x : A) → x ∈ xs → P x
+  all_of P [] h x among = elim among [ ]
   all_of P (y ∷ xs) h x here = h.0
   all_of P (y ∷ xs) h x (there m) = all_of P xs h.1 x m
 
@@ -36,6 +36,7 @@ module _ {A : Type 0} where
   in_right x (y ∷ xs) ys m = there (in_right x xs ys m)
 
   pub in_left : (x : A) (xs ys : List A) → x ∈ xs → x ∈ (xs ++ ys)
+  in_left x [] ys among = elim among [ ]
   in_left x (y ∷ xs) ys here = here
   in_left x (y ∷ xs) ys (there m) = there (in_left x xs ys m)
 

@@ -43,6 +43,7 @@ nothing_belongs ended sent = record {
 stays_among : (gone y : Asked) → eqb gone.place y.place ≡ false → (live : List Asked) → y ∈ live
     → y ∈ without (some gone) live
 unfolding without
+stays_among gone y other [] among = elim among [ ]
 stays_among gone y other (x ∷ live) here = rw other here
 stays_among gone y other (x ∷ live) (there among) =
     by_test (λ t. y ∈ (if t (without (some gone) live) (x ∷ without (some gone) live))) (eqb gone.place x.place)
