@@ -13,15 +13,18 @@ import sys
 
 TOKEN = re.compile(r"[^\W\d][\w'-]*")
 HEAD = re.compile(r"^((?:pub|abbrev|unfoldable)\s+)*([^\W\d_A-Z][\w'-]*)\s*:(?!=)")
-INSIDE = re.compile(r"^\s+pub ([^\W\d_A-Z][\w'-]*)\s*:(?!=)")
+INSIDE = re.compile(r"^\s+(?:(?:unfoldable|abbrev)\s+)*(?:pub )?(?:(?:unfoldable|abbrev)\s+)*([^\W\d_A-Z][\w'-]*)\s*:(?!=)")
 MEMBERS = re.compile(r"^\s+(?:pub )?((?:[^\W\d_A-Z][\w'-]* )+):")
 OPENS = re.compile(r"^(?:(?:pub|abbrev|unfoldable)\s+)*(?:record|data)\b")
 
 # A lemma and a definition that would fall together: the lemma has `_law` behind its name.
 LAWS = (
     "fault-runs first-free first-sent from-le16 heard-as in-pieces in-time is-command is-quiet item-runs kept-runs last-id may-go-again no-response "
-    "not-command on-command past-of poll-line receive-line refusal-runs request-runs second-id"
+    "not-command on-ack on-command on-data on-message on-nak on-response on-sequenced past-of poll-line receive-line refusal-runs request-runs second-id"
 ).split()
+
+# Variables of specs/ that several definitions share.
+VARIABLES = "backSeq bufferExit framesExit otherKept outputExit replyExit storeExit".split()
 
 # Names that port.py has turned already, and that would fall together with one that is turned here: in the crates named alone.
 BEFORE = {
@@ -92,6 +95,7 @@ def renamed(crates):
         if parts[1] == "specs" or (parts[1] == "proofs" and len(parts) == 3):
             names.update(declared(path))
     names -= of_the_library(crates)
+    names.update(VARIABLES)
     return {name: snake(name) for name in sorted(names) if snake(name) != name}
 
 

@@ -91,9 +91,9 @@ at_among id (suc i) (other ∷ ids) (suc j) inside less same =
 
 module _ (r : ℕ) (ids : List ℕ) where
   -- a position is unsound where the test of its ID holds
-  from-test : (i : ℕ) → is_unsound r (take i ids) (id_at ids i) ≡ true → Unsound r ids i
+  from_test : (i : ℕ) → is_unsound r (take i ids) (id_at ids i) ≡ true → Unsound r ids i
   unfolding is_unsound
-  from-test i e = by_tests (eqb (id_at ids i) 0) (leb (id_at ids i) r) refl refl e
+  from_test i e = by_tests (eqb (id_at ids i) 0) (leb (id_at ids i) r) refl refl e
     where
       by_tests : (a b : Bool) → eqb (id_at ids i) 0 ≡ a → leb (id_at ids i) r ≡ b → a || (b || is_among (id_at ids i) (take i ids)) ≡ true
           → Unsound r ids i
@@ -101,11 +101,11 @@ module _ (r : ℕ) (ids : List ℕ) where
       by_tests false true zero-id low e = is_reserved (leb-true (id_at ids i) r low)
       by_tests false false zero-id low e = let (j, less, same) = among_at (id_at ids i) i ids e in is_repeated j less same
 
-  to-test : (i : ℕ) → i < length ids → Unsound r ids i → is_unsound r (take i ids) (id_at ids i) ≡ true
+  to_test : (i : ℕ) → i < length ids → Unsound r ids i → is_unsound r (take i ids) (id_at ids i) ≡ true
   unfolding is_unsound
-  to-test i inside (is_zero e) = rw (eq-eqb (id_at ids i) 0 e)
-  to-test i inside (is_reserved most) = rw (le-leb (id_at ids i) r most, or-true (eqb (id_at ids i) 0))
-  to-test i inside (is_repeated j less same) =
+  to_test i inside (is_zero e) = rw (eq-eqb (id_at ids i) 0 e)
+  to_test i inside (is_reserved most) = rw (le-leb (id_at ids i) r most, or-true (eqb (id_at ids i) 0))
+  to_test i inside (is_repeated j less same) =
       rw (at_among (id_at ids i) i ids j inside less same, or-true (leb (id_at ids i) r), or-true (eqb (id_at ids i) 0))
 
   -- the test with nothing earlier than the row
@@ -113,18 +113,18 @@ module _ (r : ℕ) (ids : List ℕ) where
   whole i = ap (λ (earlier : List ℕ). is_unsound r earlier (id_at ids i)) (append-nil (take i ids))
 
   sound : (i : ℕ) → i < length ids → test_in r [] ids i ≡ false → Unsound r ids i → ⊥
-  sound i inside e unsound = true≢false (sym (whole i ∙ to-test i inside unsound) ∙ e)
+  sound i inside e unsound = true≢false (sym (whole i ∙ to_test i inside unsound) ∙ e)
 
   -- what the search finds is the answer
-  answer-of : {o : Option ℕ} → Search (test_in r [] ids) (length ids) 0 o → IsAnswer r ids o
-  answer-of (hit i n place less found before) =
+  answer_of : {o : Option ℕ} → Search (test_in r [] ids) (length ids) 0 o → IsAnswer r ids o
+  answer_of (hit i n place less found before) =
       let same : n ≡ i = omega arith in
-      rw same (first_position i (record { within = less; unsound = from-test i (sym (whole i) ∙ found); before = λ j under. sound j (omega arith) (before j under) }))
-  answer-of (miss nowhere) = no_position (λ i inside. sound i inside (nowhere i inside))
+      rw same (first_position i (record { within = less; unsound = from_test i (sym (whole i) ∙ found); before = λ j under. sound j (omega arith) (before j under) }))
+  answer_of (miss nowhere) = no_position (λ i inside. sound i inside (nowhere i inside))
 
   -- no two positions are first
-  same-position : (i j : ℕ) → IsFirst r ids i → IsFirst r ids j → i ≡ j
-  same-position i j f g = by_order (ltb i j) (ltb j i) refl refl
+  same_position : (i j : ℕ) → IsFirst r ids i → IsFirst r ids j → i ≡ j
+  same_position i j f g = by_order (ltb i j) (ltb j i) refl refl
     where
       by_order : (s t : Bool) → ltb i j ≡ s → ltb j i ≡ t → i ≡ j
       by_order true t less e = absurd (g.before i (ltb-true i j less) f.unsound)
@@ -133,7 +133,7 @@ module _ (r : ℕ) (ids : List ℕ) where
 
   -- no two answers are right
   pub same_answer : {o p : Option ℕ} → IsAnswer r ids o → IsAnswer r ids p → o ≡ p
-  same_answer (first_position i f) (first_position j g) = ap some (same-position i j f g)
+  same_answer (first_position i f) (first_position j g) = ap some (same_position i j f g)
   same_answer (first_position i f) (no_position h) = absurd (h i f.within f.unsound)
   same_answer (no_position h) (first_position j g) = absurd (h j g.within g.unsound)
   same_answer (no_position h) (no_position k) = refl
@@ -163,4 +163,4 @@ module _ (r : ℕ) (ids : List ℕ) where
       none_unsound i inside (is_repeated j less same) = s.distinct i j less inside same
 
 pub answers : (r : ℕ) (ids : List ℕ) → IsAnswer r ids (audit r ids)
-answers r ids = answer-of r ids (searched r ids [] 0)
+answers r ids = answer_of r ids (searched r ids [] 0)

@@ -93,14 +93,14 @@ holds_none id small =
 -- a table with an ID marked holds it, beside those held before
 pub holds_marked : (table earlier : List ℕ) (id : ℕ) → length table ≡ words → id < words * bits → Holds table earlier → Holds (with_seen table id) (id ∷ earlier)
 unfolding is_among
-holds_marked table earlier id all small held other less = by-id (eqb other id) refl
+holds_marked table earlier id all small held other less = by_id (eqb other id) refl
   where
     inside : id / bits < length table
     inside = omega arith
 
-    by-id : (t : Bool) → eqb other id ≡ t → has_seen (with_seen table id) other ≡ (t || is_among other earlier)
-    by-id true e = ap (has_seen (with_seen table id)) (eqb-true other id e) ∙ seen_same table id inside
-    by-id false e = seen_other table id inside other (eqb-false other id e) ∙ held other less
+    by_id : (t : Bool) → eqb other id ≡ t → has_seen (with_seen table id) other ≡ (t || is_among other earlier)
+    by_id true e = ap (has_seen (with_seen table id)) (eqb-true other id e) ∙ seen_same table id inside
+    by_id false e = seen_other table id inside other (eqb-false other id e) ∙ held other less
 
 -- ---- the promise of a step
 -- one of two tests holds: so does one of three

@@ -19,16 +19,16 @@ use Rattle.c_api.proofs.Told.{message_told, payload_named}
 
 module _ (s place t q len : ℕ) {n : ℕ} where
   -- a number from 10 on is a length
-  as-length : (a : Answer) → written s place t q len ≡ a → n ≡ number_of a → 10 ≤ n → written s place t q len ≡ accepted n
-  as-length (accepted k) said same ten = rw same said
-  as-length (refused k) said same ten =
+  as_length : (a : Answer) → written s place t q len ≡ a → n ≡ number_of a → 10 ≤ n → written s place t q len ≡ accepted n
+  as_length (accepted k) said same ten = rw same said
+  as_length (refused k) said same ten =
       let below : k < 10 =
       ⊎_elim (λ e. omega (arith, e)) (λ e. omega (arith, e)) (refused_with s place t q len (sym said)) in absurd (omega arith)
 
   -- one below 10 is a refusal
-  as-refusal : (a : Answer) → written s place t q len ≡ a → n ≡ number_of a → n < 10 → written s place t q len ≡ refused n
-  as-refusal (accepted k) said same below = let fits = passed s place t q len (sym said) in absurd (omega arith)
-  as-refusal (refused k) said same below = rw same said
+  as_refusal : (a : Answer) → written s place t q len ≡ a → n ≡ number_of a → n < 10 → written s place t q len ≡ refused n
+  as_refusal (accepted k) said same below = let fits = passed s place t q len (sym said) in absurd (omega arith)
+  as_refusal (refused k) said same below = rw same said
 
 module _ {n place t q : ℕ} {p l exit : List ℕ} (wrote : WroteNumber n place t q p l exit) where
   abbrev answer : Answer
@@ -38,7 +38,7 @@ module _ {n place t q : ℕ} {p l exit : List ℕ} (wrote : WroteNumber n place 
   pub write_then_read : 10 ≤ n
       → (numbers_of (scan (drop place exit)) ≡ numbers 6 t q 8 (length p) 0 n) × (take (length p) (drop 8 (drop place exit)) ≡ p)
   write_then_read ten =
-      let says = as-length (length l) place t q (length p) answer refl wrote.answers ten in
+      let says = as_length (length l) place t q (length p) answer refl wrote.answers ten in
       let as-wrote : Wrote (Length n) place t q (length p) p l exit =
       record { answers = sym says; leaves = rw says at wrote.leaves } in
       let read = messages.write_then_read as-wrote in
@@ -52,7 +52,7 @@ module _ {n place t q : ℕ} {p l exit : List ℕ} (wrote : WroteNumber n place 
 
   pub refusal_leaves : n < 10 → exit ≡ l
   refusal_leaves below =
-      let says = as-refusal (length l) place t q (length p) answer refl wrote.answers below in rw says at wrote.leaves
+      let says = as_refusal (length l) place t q (length p) answer refl wrote.answers below in rw says at wrote.leaves
 
 -- of a message that was read, the payload is the part that its numbers name
 pub read_then_write : (xs : List ℕ) {t q p len d r n place : ℕ} {l exit : List ℕ} → ((i : ℕ) → get_or xs i 0 < 256)

@@ -47,8 +47,8 @@ sums : (odd : ℕ) → odd + 9 ≡ odd + 1 + 8
 sums odd = omega arith
 
 module _ (odd : ℕ) (s : List ℕ) (few : odd ≤ 7) (enough : odd + 9 ≤ length s) where
-  first-length : length (take (odd + 9) s) ≡ odd + 9
-  first-length = length-take-le (odd + 9) s enough
+  first_length : length (take (odd + 9) s) ≡ odd + 9
+  first_length = length-take-le (odd + 9) s enough
 
   -- the first bytes and the word behind them are one number
   whole : number (take (odd + 9) s) ≡ two_words (number (take (odd + 1) s)) (number (take 8 (drop (odd + 1) s)))
@@ -60,12 +60,12 @@ module _ (odd : ℕ) (s : List ℕ) (few : odd ≤ 7) (enough : odd + 9 ≤ leng
       (number_below (take 8 (drop (odd + 1) s)))
 
   bits : 8 * length (take (odd + 9) s) ≡ 8 * odd + 56 + 16
-  bits = omega (arith, first-length)
+  bits = omega (arith, first_length)
 
   -- with the start added to the first two bytes
-  sum-law : two_words (bit_xor (number (take (odd + 1) s)) (start_high odd)) (bit_xor (number (take 8 (drop (odd + 1) s))) (start_low odd))
+  sum_law : two_words (bit_xor (number (take (odd + 1) s)) (start_high odd)) (bit_xor (number (take 8 (drop (odd + 1) s))) (start_low odd))
       ≡ bit_xor (number (take (odd + 9) s)) (start * 2 ^ (8 * odd + 56))
-  sum-law =
+  sum_law =
       sym (xor_block 64 (number (take (odd + 1) s)) (start_high odd) (number (take 8 (drop (odd + 1) s))) (start_low odd) word_below (mod-lt (start * 2 ^ 56 % 2 ^ 64 * 2 ^ (8 * odd)) (pow_pos 64)))
       ∙ ap₂ bit_xor (sym whole) (start_split odd few)
 
@@ -78,7 +78,7 @@ module _ (odd : ℕ) (s : List ℕ) (few : odd ≤ 7) (enough : odd + 9 ≤ leng
   pub front_law : remainder 128 (two_words (bit_xor (number (take (odd + 1) s)) (start_high odd)) (bit_xor (number (take 8 (drop (odd + 1) s))) (start_low odd)))
       ≡ checksum_of (take (odd + 9) s)
   front_law =
-      ap₂ remainder (in_128 odd few) sum-law
+      ap₂ remainder (in_128 odd few) sum_law
       ∙ zeros_first (56 - 8 * odd) (8 * odd + 56 + 16) (bit_xor (number (take (odd + 9) s)) (start * 2 ^ (8 * odd + 56))) sum_below
       ∙ sym (start_first (8 * odd + 56) (take (odd + 9) s) bits)
 

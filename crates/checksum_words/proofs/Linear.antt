@@ -25,27 +25,27 @@ one_add : (k : ℕ) → 1 + k ≡ suc k
 one_add k = omega arith
 
 module _ (f g : ℕ → ℕ) (lf : Linear f) (lg : Linear g) where
-  zero-case : (a : ℕ) → a ≡ 0 → f a ≡ g a
-  zero-case a e = ap f e ∙ at_zero f lf ∙ sym (at_zero g lg) ∙ ap g (sym e)
+  zero_case : (a : ℕ) → a ≡ 0 → f a ≡ g a
+  zero_case a e = ap f e ∙ at_zero f lf ∙ sym (at_zero g lg) ∙ ap g (sym e)
 
   -- the bit k and less than it
-  top-case : (k r : ℕ) → r < 2 ^ k → f (2 ^ k) ≡ g (2 ^ k) → f r ≡ g r → f (1 * 2 ^ k + r) ≡ g (1 * 2 ^ k + r)
-  top-case k r h p q =
+  top_case : (k r : ℕ) → r < 2 ^ k → f (2 ^ k) ≡ g (2 ^ k) → f r ≡ g r → f (1 * 2 ^ k + r) ≡ g (1 * 2 ^ k + r)
+  top_case k r h p q =
       ap f (sym (xor_shifted 1 k r h)) ∙ lf (1 * 2 ^ k) r
       ∙ ap₂ bit_xor (ap f (omega arith) ∙ p ∙ ap g (omega arith)) q
       ∙ sym (lg (1 * 2 ^ k) r) ∙ ap g (xor_shifted 1 k r h)
 
-  digit-case : (k t r : ℕ) → t < 2 → r < 2 ^ k → f (2 ^ k) ≡ g (2 ^ k) → f r ≡ g r → f (t * 2 ^ k + r) ≡ g (t * 2 ^ k + r)
-  digit-case k zero r ht h p q = ap f (omega arith) ∙ q ∙ ap g (omega arith)
-  digit-case k (suc zero) r ht h p q = top-case k r h p q
-  digit-case k (suc (suc t)) r ht h p q = absurd (omega arith)
+  digit_case : (k t r : ℕ) → t < 2 → r < 2 ^ k → f (2 ^ k) ≡ g (2 ^ k) → f r ≡ g r → f (t * 2 ^ k + r) ≡ g (t * 2 ^ k + r)
+  digit_case k zero r ht h p q = ap f (omega arith) ∙ q ∙ ap g (omega arith)
+  digit_case k (suc zero) r ht h p q = top_case k r h p q
+  digit_case k (suc (suc t)) r ht h p q = absurd (omega arith)
 
   pub agree : (k : ℕ) → T (agree_on_bits f g k) → (a : ℕ) → a < 2 ^ k → f a ≡ g a
-  agree zero t a h = zero-case a (omega arith)
+  agree zero t a h = zero_case a (omega arith)
   agree (suc k) t a h =
       let tests = and_yes (eqb (f (2 ^ k)) (g (2 ^ k))) (agree_on_bits f g k) t in
       ap f (sym (split a k))
-      ∙ digit-case k (a / 2 ^ k) (a % 2 ^ k) (shr_lt 1 k (subst (λ (n : ℕ). a < 2 ^ n) (sym (one_add k)) h)) (mod-lt a (pow_pos k))
+      ∙ digit_case k (a / 2 ^ k) (a % 2 ^ k) (shr_lt 1 k (subst (λ (n : ℕ). a < 2 ^ n) (sym (one_add k)) h)) (mod-lt a (pow_pos k))
       (eqb→eq (f (2 ^ k)) (g (2 ^ k)) tests.0)
       (agree k tests.1 (a % 2 ^ k) (mod-lt a (pow_pos k)))
       ∙ ap g (split a k)

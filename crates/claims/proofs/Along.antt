@@ -35,11 +35,11 @@ now_sound l {limit} {t} fine go_on =
     all_map (Sound l.reserved l.clock) (Sound l.reserved t) (later go_on) l.live fine.fit.each
 
 module _ (limit : ℕ) (enough : Enough limit) where
-  told-step : (l : Ledger) (c : Call) (h : List Entry) (d : Done) → Fine limit l → View limit l c d → Told h l.live
+  told_step : (l : Ledger) (c : Call) (h : List Entry) (d : Done) → Fine limit l → View limit l c d → Told h l.live
       → Told (entry_of c d ∷ h) d.next.live
-  told-step l c h d fine (refuses n number buffers same) told =
+  told_step l c h d fine (refuses n number buffers same) told =
       rw same (told_calm (entry_of c d) h l.live (rw number) (rw number) (rw number) told)
-  told-step l c h d fine (accepts go_on accepted keeps change) told = go change
+  told_step l c h d fine (accepts go_on accepted keeps change) told = go change
     where
       e : Entry
       e = entry_of c d
@@ -66,7 +66,7 @@ module _ (limit : ℕ) (enough : Enough limit) where
       let v = view limit s.ledger c in
       record {
         fine = fine_step limit enough s.ledger c good.fine v;
-        told = told-step s.ledger c s.past (step limit s.ledger c) good.fine v good.told;
+        told = told_step s.ledger c s.past (step limit s.ledger c) good.fine v good.told;
       }
 
   pub good_run : (s : Run) (cs : List Call) → Good limit s → Good limit (run limit s cs)

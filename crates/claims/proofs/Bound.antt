@@ -114,9 +114,9 @@ is_quiet_law (polled (quiet o)) time h = cc
 
 module _ (e : Entry) (h : List Entry) (t : ℕ) (accepted : is_accepted e.answer ≡ true) where
   -- no later after any other answer
-  stands-still : quiet_in e.answer ≡ none → may_follow (e ∷ h) t ≡ true → t ≤ reading_of e.call
+  stands_still : quiet_in e.answer ≡ none → may_follow (e ∷ h) t ≡ true → t ≤ reading_of e.call
   unfolding may_follow
-  stands-still other may =
+  stands_still other may =
       by_test (λ b. ltb (reading_of e.call) t ≡ b → if b (may_be_later e.answer (reading_of e.call) t) true ≡ true
       → t ≤ reading_of e.call)
       (ltb (reading_of e.call) t)
@@ -134,14 +134,14 @@ module _ (e : Entry) (h : List Entry) (t : ℕ) (accepted : is_accepted e.answer
       by_test (λ b. ltb (reading_of e.call) t ≡ b → if b (may_be_later e.answer (reading_of e.call) t) true ≡ true
       → All (Until t) live)
       (ltb (reading_of e.call) t)
-      (λ b k m. by-earliest (earliest live) refl (rw (is_quiet_law e.answer _ rests) at m))
+      (λ b k m. by_earliest (earliest live) refl (rw (is_quiet_law e.answer _ rests) at m))
       (λ b k m. all_map (Until (reading_of e.call)) (Until t) (until_sooner (ltb-false (reading_of e.call) t k)) live until)
       refl (rw accepted at may)
     where
-      by-earliest : (o : Option ℕ) → earliest live ≡ o
+      by_earliest : (o : Option ℕ) → earliest live ≡ o
           → leave_of (quiet (map (◌- reading_of e.call) o)) (reading_of e.call) t ≡ true → All (Until t) live
-      by-earliest none k m = no_deadline t live k
-      by-earliest (some first) k m =
+      by_earliest none k m = no_deadline t live k
+      by_earliest (some first) k m =
           let least-one = not_before (reading_of e.call) live k until in
           let at_most = leb-true t (reading_of e.call + (first - reading_of e.call)) m in
           all_map (Until first) (Until t) (until_sooner (omega arith)) live (least live k)
@@ -162,16 +162,16 @@ kept_now e h accepted kept =
     rw accepted at (both (not (is_accepted e.answer) || may_follow h (reading_of e.call)) (keeps_clock_rule h) kept).0
 
 module _ (limit : ℕ) (enough : Enough limit) where
-  timed-after : (l : Ledger) (c : Call) (h : List Entry) (d : Done) → Fine limit l → View limit l c d
+  timed_after : (l : Ledger) (c : Call) (h : List Entry) (d : Done) → Fine limit l → View limit l c d
       → keeps_clock_rule (entry_of c d ∷ h) ≡ true
       → ((t : ℕ) → l.clock ≤ t → may_follow h t ≡ true → Timely limit t (accepted_at h) l.live)
       → (t : ℕ) → d.next.clock ≤ t → may_follow (entry_of c d ∷ h) t ≡ true
       → Timely limit t (accepted_at (entry_of c d ∷ h)) d.next.live
   unfolding may_follow
-  timed-after l c h d fine (refuses n number buffers same) kept ready t on may =
+  timed_after l c h d fine (refuses n number buffers same) kept ready t on may =
       let before = ready t (rw same at on) (rw number at may) in
       rw same (unasked (entry_of c d) h limit t l.live (rw number) before)
-  timed-after l c h d fine (accepts go_on accepted keeps change) kept ready t on may = go change
+  timed_after l c h d fine (accepts go_on accepted keeps change) kept ready t on may = go change
     where
       e : Entry
       e = entry_of c d
@@ -182,13 +182,13 @@ module _ (limit : ℕ) (enough : Enough limit) where
       after : Timely limit (reading_of c) (accepted_at (entry_of c d ∷ h)) d.next.live
       after = changed limit enough l c h d fine go_on change before
 
-      not-before-now : reading_of c ≤ t
-      not-before-now = let clock = keeps.clock in omega arith
+      not_before_now : reading_of c ≤ t
+      not_before_now = let clock = keeps.clock in omega arith
 
       still : quiet_in d.answer ≡ none → Timely limit t (accepted_at (entry_of c d ∷ h)) d.next.live
       still other =
-          let no-later = stands-still (entry_of c d) h t accepted other may in
-          let same : reading_of c ≡ t = omega (arith, not-before-now) in
+          let no-later = stands_still (entry_of c d) h t accepted other may in
+          let same : reading_of c ≡ t = omega (arith, not_before_now) in
           subst (λ x. Timely limit x (accepted_at (entry_of c d ∷ h)) d.next.live) same after
 
       until : quiet_in d.answer ≡ some (map (◌- reading_of c) (earliest l.live)) → d.next.live ≡ l.live
@@ -211,11 +211,11 @@ module _ (limit : ℕ) (enough : Enough limit) where
           rw (same, among) (timely_busy limit (reading_of c) (accepted_at (entry_of c d ∷ h)) t b a q flying few
           (rw among at (until shows.rests same)) (rw (same, among) at after))
 
-  timed-step : (s : Run) (c : Call) → Good limit s → keeps_clock_rule (then limit s c).past ≡ true → Timed limit s
+  timed_step : (s : Run) (c : Call) → Good limit s → keeps_clock_rule (then limit s c).past ≡ true → Timed limit s
       → Timed limit (then limit s c)
-  timed-step s c good kept timed =
+  timed_step s c good kept timed =
       record {
-        ready = timed-after s.ledger c s.past (step limit s.ledger c) good.fine (view limit s.ledger c) kept
+        ready = timed_after s.ledger c s.past (step limit s.ledger c) good.fine (view limit s.ledger c) kept
             timed.ready;
       }
 
@@ -238,12 +238,12 @@ owned h (x ∷ live) [] a (there among) own = absurd own
 
 module _ (limit : ℕ) (enough : Enough limit) where
   -- what a quiet poll leaves live was accepted not long ago
-  quiet-early : (l : Ledger) (c : Call) (h : List Entry) (d : Done) (time : Option ℕ) → Fine limit l → View limit l c d
+  quiet_early : (l : Ledger) (c : Call) (h : List Entry) (d : Done) (time : Option ℕ) → Fine limit l → View limit l c d
       → (is_accepted d.answer ≡ true → Timely limit (reading_of c) (accepted_at h) l.live) → d.answer ≡ polled (quiet time)
       → All (λ q. reading_of c < accepted_at (entry_of c d ∷ h) q + 3000 * limit + 3000) d.next.live
-  quiet-early l c h d time fine (refuses n number buffers same) timely answered =
+  quiet_early l c h d time fine (refuses n number buffers same) timely answered =
       let z : ◌≡◌ {A = ℕ} 0 1 = cc in absurd (omega arith)
-  quiet-early l c h d time fine (accepts go_on accepted keeps change) timely answered = go change
+  quiet_early l c h d time fine (accepts go_on accepted keeps change) timely answered = go change
     where
       t : ℕ
       t = reading_of c
@@ -288,17 +288,17 @@ module _ (limit : ℕ) (enough : Enough limit) where
       next = good_step limit enough s c good
 
       early : All (λ q. reading_of c < accepted_at (then limit s c).past q + 3000 * limit + 3000) (then limit s c).ledger.live
-      early = quiet-early s.ledger c s.past (step limit s.ledger c) time good.fine
+      early = quiet_early s.ledger c s.past (step limit s.ledger c) time good.fine
           (view limit s.ledger c) timely answered
         where
           timely : is_accepted (step limit s.ledger c).answer ≡ true
               → Timely limit (reading_of c) (accepted_at s.past) s.ledger.live
-          timely accepted = timed.ready (reading_of c) (clock-on (view limit s.ledger c))
+          timely accepted = timed.ready (reading_of c) (clock_on (view limit s.ledger c))
               (kept_now (entry_of c (step limit s.ledger c)) s.past accepted kept)
             where
-              clock-on : View limit s.ledger c (step limit s.ledger c) → s.ledger.clock ≤ reading_of c
-              clock-on (refuses n number buffers same) = let z : ◌≡◌ {A = ℕ} 0 1 = cc in absurd (omega arith)
-              clock-on (accepts go_on accepted' keeps change) = go_on
+              clock_on : View limit s.ledger c (step limit s.ledger c) → s.ledger.clock ≤ reading_of c
+              clock_on (refuses n number buffers same) = let z : ◌≡◌ {A = ℕ} 0 1 = cc in absurd (omega arith)
+              clock_on (accepts go_on accepted' keeps change) = go_on
 
       over : (a : Asked) → Fate (then limit s c).past a → a.time + longest limit ≤ reading_of c
           → endings a.place (then limit s c).past ≡ 1
@@ -342,34 +342,34 @@ module _ (limit : ℕ) (enough : Enough limit) where
     timed : keeps_clock_rule s.past ≡ true → Timed limit s
     bounded : Bounded (longest limit) s.past
 
-  clock-of : (l : Ledger) (c : Call) {d : Done} → View limit l c d → is_accepted d.answer ≡ true → l.clock ≤ reading_of c
-  clock-of l c (refuses n number buffers same) accepted = let z : ◌≡◌ {A = ℕ} 0 1 = cc in absurd (omega arith)
-  clock-of l c (accepts go_on accepted' keeps change) accepted = go_on
+  clock_of : (l : Ledger) (c : Call) {d : Done} → View limit l c d → is_accepted d.answer ≡ true → l.clock ≤ reading_of c
+  clock_of l c (refuses n number buffers same) accepted = let z : ◌≡◌ {A = ℕ} 0 1 = cc in absurd (omega arith)
+  clock_of l c (accepts go_on accepted' keeps change) accepted = go_on
 
-  bounded-step : (s : Run) (c : Call) → Good limit s → Told-in-time s → Told-in-time (then limit s c)
-  bounded-step s c good told =
+  bounded_step : (s : Run) (c : Call) → Good limit s → Told-in-time s → Told-in-time (then limit s c)
+  bounded_step s c good told =
       let d = step limit s.ledger c in
       let e = entry_of c d in
       record {
-        timed = λ kept. timed-step limit enough s c good kept (told.timed (kept_before e s.past kept));
+        timed = λ kept. timed_step limit enough s c good kept (told.timed (kept_before e s.past kept));
         bounded = (
           (λ rule.
               let kept = rule_test (e ∷ s.past) rule in
               let before = told.timed (kept_before e s.past kept) in (
                 (λ time answered. quiet_ends s c time good before kept answered),
-                (λ accepted. call_in_time s c good before (clock-of s.ledger c (view limit s.ledger c) accepted)
+                (λ accepted. call_in_time s c good before (clock_of s.ledger c (view limit s.ledger c) accepted)
                     (kept_now e s.past accepted kept)),
               )),
           told.bounded,
         );
       }
 
-  bounded-run : (s : Run) (cs : List Call) → Good limit s → Told-in-time s → Told-in-time (run limit s cs)
+  bounded_run : (s : Run) (cs : List Call) → Good limit s → Told-in-time s → Told-in-time (run limit s cs)
   unfolding run
-  bounded-run s [] good told = told
-  bounded-run s (c ∷ cs) good told = bounded-run (then limit s c) cs (good_step limit enough s c good) (bounded-step s c good told)
+  bounded_run s [] good told = told
+  bounded_run s (c ∷ cs) good told = bounded_run (then limit s c) cs (good_step limit enough s c good) (bounded_step s c good told)
 
   pub always_bounded : (given : ℕ) (cs : List Call) → Bounded (longest limit) (run limit (start given) cs).past
   always_bounded given cs =
-      (bounded-run (start given) cs (start_good limit given) (record { timed = λ kept. start_timed limit given; bounded = tt })
+      (bounded_run (start given) cs (start_good limit given) (record { timed = λ kept. start_timed limit given; bounded = tt })
       ).bounded

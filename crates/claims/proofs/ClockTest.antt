@@ -89,11 +89,11 @@ module _ (e : Entry) where
       (λ refused k. follows_test es k)
       h
 
-  test-follows : (es : List Entry) → may_follow es (reading_of e.call) ≡ true → EachFollows (accepted_in es)
+  test_follows : (es : List Entry) → may_follow es (reading_of e.call) ≡ true → EachFollows (accepted_in es)
       → EachFollows (e ∷ accepted_in es)
   unfolding accepted_in may_follow
-  test-follows [] h rest = omega arith
-  test-follows (b ∷ es) h rest =
+  test_follows [] h rest = omega arith
+  test_follows (b ∷ es) h rest =
       by_test (λ x. if x (if (ltb (reading_of b.call) (reading_of e.call))
       (may_be_later b.answer (reading_of b.call) (reading_of e.call)) true)
       (may_follow es (reading_of e.call)) ≡ true
@@ -103,7 +103,7 @@ module _ (e : Entry) where
         (λ later. leaves_waited b e (rw (lt-ltb (reading_of b.call) (reading_of e.call) (omega arith)) at k)),
         others,
       ))
-      (λ refused k others. test-follows es k others)
+      (λ refused k others. test_follows es k others)
       h rest
 
 pub without_newest : (e : Entry) (es : List Entry) → EachFollows (e ∷ es) → EachFollows es
@@ -129,6 +129,6 @@ test_rule (e ∷ es) h =
     → EachFollows (if x (e ∷ accepted_in es) (accepted_in es)))
     (is_accepted e.answer)
     (λ accepted k.
-    let parts = both (may_follow es (reading_of e.call)) (keeps_clock_rule es) k in test-follows e es parts.0 (test_rule es parts.1))
+    let parts = both (may_follow es (reading_of e.call)) (keeps_clock_rule es) k in test_follows e es parts.0 (test_rule es parts.1))
     (λ refused k. test_rule es k)
     h

@@ -47,33 +47,33 @@ pub record Timely (limit t : ℕ) (accepted : Request → ℕ) (live : List Requ
 
 module _ (limit t : ℕ) (accepted : Request → ℕ) where
   -- it is free sooner
-  ok-sooner : (base free free' a : ℕ) (s : State) → free' ≤ free → Ok limit t base free a s → Ok limit t base free' a s
-  ok-sooner base free free' a queued less h = omega arith
-  ok-sooner base free free' a (in_flight f) less h = (h.0, h.1, omega arith)
-  ok-sooner base free free' a (waiting since) less h = h
+  ok_sooner : (base free free' a : ℕ) (s : State) → free' ≤ free → Ok limit t base free a s → Ok limit t base free' a s
+  ok_sooner base free free' a queued less h = omega arith
+  ok_sooner base free free' a (in_flight f) less h = (h.0, h.1, omega arith)
+  ok_sooner base free free' a (waiting since) less h = h
 
-  after-sooner : (free free' : ℕ) (s : State) → free' ≤ free → free_after free' s ≤ free_after free s
-  after-sooner free free' queued less = omega arith
-  after-sooner free free' (in_flight f) less = less
-  after-sooner free free' (waiting since) less = less
+  after_sooner : (free free' : ℕ) (s : State) → free' ≤ free → free_after free' s ≤ free_after free s
+  after_sooner free free' queued less = omega arith
+  after_sooner free free' (in_flight f) less = less
+  after_sooner free free' (waiting since) less = less
 
-  line-sooner : (base free free' : ℕ) (qs : List Request) → free' ≤ free → Line limit t base free accepted qs
+  line_sooner : (base free free' : ℕ) (qs : List Request) → free' ≤ free → Line limit t base free accepted qs
       → Line limit t base free' accepted qs
-  line-sooner base free free' [] less h = tt
-  line-sooner base free free' (q ∷ qs) less h = (
-    ok-sooner base free free' (accepted q) q.state less h.0,
-    line-sooner base (free_after free q.state) (free_after free' q.state) qs (after-sooner free free' q.state less) h.1,
+  line_sooner base free free' [] less h = tt
+  line_sooner base free free' (q ∷ qs) less h = (
+    ok_sooner base free free' (accepted q) q.state less h.0,
+    line_sooner base (free_after free q.state) (free_after free' q.state) qs (after_sooner free free' q.state less) h.1,
   )
 
-  after-grows : (free : ℕ) (s : State) → free ≤ free_after free s
-  after-grows free queued = omega arith
-  after-grows free (in_flight f) = omega arith
-  after-grows free (waiting since) = omega arith
+  after_grows : (free : ℕ) (s : State) → free ≤ free_after free s
+  after_grows free queued = omega arith
+  after_grows free (in_flight f) = omega arith
+  after_grows free (waiting since) = omega arith
 
   -- one leaves
   pub line_less : (base free : ℕ) (b a : List Request) (q : Request) → Line limit t base free accepted (b ++ (q ∷ a))
       → Line limit t base free accepted (b ++ a)
-  line_less base free [] a q h = line-sooner base (free_after free q.state) free a (after-grows free q.state) h.1
+  line_less base free [] a q h = line_sooner base (free_after free q.state) free a (after_grows free q.state) h.1
   line_less base free (x ∷ b) a q h = (h.0, line_less base (free_after free x.state) b a q h.1)
 
   -- one goes into another state, and does not leave the line later
@@ -93,65 +93,65 @@ module _ (limit t : ℕ) (accepted : Request → ℕ) where
         refl;
   }
 
-  line-turn : (base free : ℕ) (b a : List Request) (q : Request) (s : State) → base ≤ free → Lighter base (accepted q) q.state s
+  line_turn : (base free : ℕ) (b a : List Request) (q : Request) (s : State) → base ≤ free → Lighter base (accepted q) q.state s
       → accepted (with_state s q) ≡ accepted q
       → Line limit t base free accepted (b ++ (q ∷ a)) → Line limit t base free accepted (b ++ (with_state s q ∷ a))
-  line-turn base free [] a q s on light same h = rw (same, light.after free) (light.ok free on h.0, h.1)
-  line-turn base free (x ∷ b) a q s on light same h =
-      let more = after-grows free x.state in
-      (h.0, line-turn base (free_after free x.state) b a q s (omega arith) light same h.1)
+  line_turn base free [] a q s on light same h = rw (same, light.after free) (light.ok free on h.0, h.1)
+  line_turn base free (x ∷ b) a q s on light same h =
+      let more = after_grows free x.state in
+      (h.0, line_turn base (free_after free x.state) b a q s (omega arith) light same h.1)
 
   -- where none is in flight, base does not matter
-  ok-unflown : (base base' free a : ℕ) (s : State) → frame_in s ≡ none → Ok limit t base free a s → Ok limit t base' free a s
-  ok-unflown base base' free a queued h k = k
-  ok-unflown base base' free a (in_flight f) h k = let z : ◌≡◌ {A = ℕ} 0 1 = cc in absurd (omega arith)
-  ok-unflown base base' free a (waiting since) h k = k
+  ok_unflown : (base base' free a : ℕ) (s : State) → frame_in s ≡ none → Ok limit t base free a s → Ok limit t base' free a s
+  ok_unflown base base' free a queued h k = k
+  ok_unflown base base' free a (in_flight f) h k = let z : ◌≡◌ {A = ℕ} 0 1 = cc in absurd (omega arith)
+  ok_unflown base base' free a (waiting since) h k = k
 
-  line-unflown : (base base' free : ℕ) (qs : List Request) → All (λ q. flies q ≡ none) qs → Line limit t base free accepted qs
+  line_unflown : (base base' free : ℕ) (qs : List Request) → All (λ q. flies q ≡ none) qs → Line limit t base free accepted qs
       → Line limit t base' free accepted qs
-  line-unflown base base' free [] down h = tt
-  line-unflown base base' free (q ∷ qs) down h = (
-    ok-unflown base base' free (accepted q) q.state down.0 h.0,
-    line-unflown base base' (free_after free q.state) qs
+  line_unflown base base' free [] down h = tt
+  line_unflown base base' free (q ∷ qs) down h = (
+    ok_unflown base base' free (accepted q) q.state down.0 h.0,
+    line_unflown base base' (free_after free q.state) qs
         down.1 h.1,
   )
 
   -- where none is queued either, neither does when it is free
-  ok-idle : (base free base' free' a : ℕ) (s : State) → frame_in s ≡ none → queued_in s ≡ none → Ok limit t base free a s
+  ok_idle : (base free base' free' a : ℕ) (s : State) → frame_in s ≡ none → queued_in s ≡ none → Ok limit t base free a s
       → Ok limit t base' free' a s
-  ok-idle base free base' free' a queued h j k = let z : ◌≡◌ {A = ℕ} 0 1 = cc in absurd (omega arith)
-  ok-idle base free base' free' a (in_flight f) h j k = let z : ◌≡◌ {A = ℕ} 0 1 = cc in absurd (omega arith)
-  ok-idle base free base' free' a (waiting since) h j k = k
+  ok_idle base free base' free' a queued h j k = let z : ◌≡◌ {A = ℕ} 0 1 = cc in absurd (omega arith)
+  ok_idle base free base' free' a (in_flight f) h j k = let z : ◌≡◌ {A = ℕ} 0 1 = cc in absurd (omega arith)
+  ok_idle base free base' free' a (waiting since) h j k = k
 
-  line-idle : (base free base' free' : ℕ) (qs : List Request) → All (λ q. flies q ≡ none) qs
+  line_idle : (base free base' free' : ℕ) (qs : List Request) → All (λ q. flies q ≡ none) qs
       → All (λ q. queued_in q.state ≡ none) qs
       → Line limit t base free accepted qs → Line limit t base' free' accepted qs
-  line-idle base free base' free' [] down idle h = tt
-  line-idle base free base' free' (q ∷ qs) down idle h = (
-    ok-idle base free base' free' (accepted q) q.state down.0 idle.0 h.0,
-    line-idle base (free_after free q.state) base' (free_after free' q.state) qs down.1 idle.1 h.1,
+  line_idle base free base' free' [] down idle h = tt
+  line_idle base free base' free' (q ∷ qs) down idle h = (
+    ok_idle base free base' free' (accepted q) q.state down.0 idle.0 h.0,
+    line_idle base (free_after free q.state) base' (free_after free' q.state) qs down.1 idle.1 h.1,
   )
 
-  after-idle : (free : ℕ) (s : State) → queued_in s ≡ none → free_after free s ≡ free
-  after-idle free queued h = let z : ◌≡◌ {A = ℕ} 0 1 = cc in absurd (omega arith)
-  after-idle free (in_flight f) h = refl
-  after-idle free (waiting since) h = refl
+  after_idle : (free : ℕ) (s : State) → queued_in s ≡ none → free_after free s ≡ free
+  after_idle free queued h = let z : ◌≡◌ {A = ℕ} 0 1 = cc in absurd (omega arith)
+  after_idle free (in_flight f) h = refl
+  after_idle free (waiting since) h = refl
 
   -- the oldest queued one is sent, where none is in flight: those before it wait
-  line-start : (base free : ℕ) (b a : List Request) (q : Request) (f : Frame) → t ≤ free → f.transmissions ≡ 1 → f.sent ≡ t
+  line_start : (base free : ℕ) (b a : List Request) (q : Request) (f : Frame) → t ≤ free → f.transmissions ≡ 1 → f.sent ≡ t
       → All (λ x. flies x ≡ none) (b ++ (q ∷ a)) → All (λ x. queued_in x.state ≡ none) b → q.state ≡ queued
       → accepted (with_state (in_flight f) q) ≡ accepted q → Line limit t base free accepted (b ++ (q ∷ a))
       → Line limit t (free + 3000) (free + 3000) accepted (b ++ (with_state (in_flight f) q ∷ a))
-  line-start base free [] a q f on first now down idle new same h =
+  line_start base free [] a q f on first now down idle new same h =
       let ok : Ok limit t base free (accepted q) queued = subst (Ok limit t base free (accepted q)) new h.0 in
       let rest : Line limit t base (free_after free queued) accepted a =
       subst (λ s. Line limit t base (free_after free s) accepted a) new h.1 in
-      (rw same (omega arith, omega arith, ok), line-unflown base (free + 3000) (free + 3000) a down.1 rest)
-  line-start base free (x ∷ b) a q f on first now down idle new same h =
-      let rest = line-start base free b a q f on first now down.1 idle.1 new same
-      (rw (after-idle free x.state idle.0) at h.1) in (
-        ok-idle base free (free + 3000) (free + 3000) (accepted x) x.state down.0 idle.0 h.0,
-        rw (after-idle (free + 3000) x.state idle.0) rest,
+      (rw same (omega arith, omega arith, ok), line_unflown base (free + 3000) (free + 3000) a down.1 rest)
+  line_start base free (x ∷ b) a q f on first now down idle new same h =
+      let rest = line_start base free b a q f on first now down.1 idle.1 new same
+      (rw (after_idle free x.state idle.0) at h.1) in (
+        ok_idle base free (free + 3000) (free + 3000) (accepted x) x.state down.0 idle.0 h.0,
+        rw (after_idle (free + 3000) x.state idle.0) rest,
       )
 
   pub timely_turn : (l : Ledger) (b a : List Request) (q : Request) {s : State} {frame : Option (List ℕ)}
@@ -170,7 +170,7 @@ module _ (limit t : ℕ) (accepted : Request → ℕ) where
           record {
             base = h.base;
             later = h.later;
-            line = line-turn h.base h.base b a q to (omega arith)
+            line = line_turn h.base h.base b a q to (omega arith)
                 (subst (λ s. Lighter h.base (accepted q) s to) (sym e) light) (same to) h.line;
           }
 
@@ -181,7 +181,7 @@ module _ (limit t : ℕ) (accepted : Request → ℕ) where
           record {
             base = h.base + 3000;
             later = omega arith;
-            line = line-start h.base h.base b a q (first_sent l.next_seq t) h.later refl refl (first e).0 (first e).1 e
+            line = line_start h.base h.base b a q (first_sent l.next_seq t) h.later refl refl (first e).0 (first e).1 e
                 (same _) h.line;
           }
       go (in_flight f) e (acknowledges wanted) = lightly e (lighter l q h.base (accepted q) (acknowledges wanted)
@@ -192,51 +192,51 @@ module _ (limit t : ℕ) (accepted : Request → ℕ) where
       go (waiting since) e moves = elim moves [ ]
 
   -- how many are queued
-  queuedOnce : State → ℕ
-  queuedOnce queued = 1
-  queuedOnce (in_flight f) = 0
-  queuedOnce (waiting since) = 0
+  queued_once : State → ℕ
+  queued_once queued = 1
+  queued_once (in_flight f) = 0
+  queued_once (waiting since) = 0
 
   queueds : List Request → ℕ
   queueds [] = 0
-  queueds (q ∷ qs) = queuedOnce q.state + queueds qs
+  queueds (q ∷ qs) = queued_once q.state + queueds qs
 
-  one_at_most : (s : State) → queuedOnce s + flies_once s ≤ 1
-  unfolding queuedOnce
+  one_at_most : (s : State) → queued_once s + flies_once s ≤ 1
+  unfolding queued_once
   one_at_most queued = omega arith
   one_at_most (in_flight f) = omega arith
   one_at_most (waiting since) = omega arith
 
-  all-at-most : (qs : List Request) → queueds qs + flights qs ≤ length qs
+  all_at_most : (qs : List Request) → queueds qs + flights qs ≤ length qs
   unfolding queueds flights
-  all-at-most [] = omega arith
-  all-at-most (q ∷ qs) = let rest = all-at-most qs in let here = one_at_most q.state in omega arith
+  all_at_most [] = omega arith
+  all_at_most (q ∷ qs) = let rest = all_at_most qs in let here = one_at_most q.state in omega arith
 
-  after-once : (free : ℕ) (s : State) → free_after free s ≡ free + 3000 * queuedOnce s
-  unfolding queuedOnce
-  after-once free queued = omega arith
-  after-once free (in_flight f) = omega arith
-  after-once free (waiting since) = omega arith
+  after_once : (free : ℕ) (s : State) → free_after free s ≡ free + 3000 * queued_once s
+  unfolding queued_once
+  after_once free queued = omega arith
+  after_once free (in_flight f) = omega arith
+  after_once free (waiting since) = omega arith
 
   -- one joins behind the others
-  line-more : (base free : ℕ) (qs : List Request) (q : Request) → q.state ≡ queued
+  line_more : (base free : ℕ) (qs : List Request) (q : Request) → q.state ≡ queued
       → free + 3000 * queueds qs + 3000 ≤ accepted q + 3000 * limit → Line limit t base free accepted qs
       → Line limit t base free accepted (qs ++ (q ∷ []))
   unfolding queueds
-  line-more base free [] q new room h = (subst (Ok limit t base free (accepted q)) (sym new) (omega arith), tt)
-  line-more base free (x ∷ qs) q new room h =
-      let more = after-once free x.state in
-      (h.0, line-more base (free_after free x.state) qs q new (omega arith) h.1)
+  line_more base free [] q new room h = (subst (Ok limit t base free (accepted q)) (sym new) (omega arith), tt)
+  line_more base free (x ∷ qs) q new room h =
+      let more = after_once free x.state in
+      (h.0, line_more base (free_after free x.state) qs q new (omega arith) h.1)
 
   -- the line is free by 3,000 ms from now, or now where none is in flight
-  line-rebase : (r base base' free free' : ℕ) (qs : List Request) → free' ≤ free → All (Sound r t) qs
+  line_rebase : (r base base' free free' : ℕ) (qs : List Request) → free' ≤ free → All (Sound r t) qs
       → t + 3000 * flights qs ≤ base'
       → Line limit t base free accepted qs → Line limit t base' free' accepted qs
   unfolding flights
-  line-rebase r base base' free free' [] less sound on h = tt
-  line-rebase r base base' free free' (q ∷ qs) less sound on h = (
+  line_rebase r base base' free free' [] less sound on h = tt
+  line_rebase r base base' free free' (q ∷ qs) less sound on h = (
     ok q.state sound.0.steady (omega arith) h.0,
-    line-rebase r base base' (free_after free q.state) (free_after free' q.state) qs (after-sooner free free' q.state less)
+    line_rebase r base base' (free_after free q.state) (free_after free' q.state) qs (after_sooner free free' q.state less)
         sound.1
         (omega arith) h.1,
   )
@@ -250,20 +250,20 @@ module _ (limit t : ℕ) (accepted : Request → ℕ) where
   pub timely_join : (r : ℕ) (live : List Request) (q : Request) → q.state ≡ queued → accepted q ≡ t → All (Sound r t) live
       → flights live ≤ 1 → length live < limit → Timely limit t accepted live → Timely limit t accepted (live ++ (q ∷ []))
   timely_join r live q new at sound one room h =
-      let count = all-at-most live in
+      let count = all_at_most live in
       by_test (λ b. leb h.base (t + 3000 * flights live) ≡ b → Timely limit t accepted (live ++ (q ∷ [])))
       (leb h.base (t + 3000 * flights live))
       (λ b e.
       let early = leb-true h.base (t + 3000 * flights live) e in
-      record { base = h.base; later = h.later; line = line-more h.base h.base live q new (omega arith) h.line })
+      record { base = h.base; later = h.later; line = line_more h.base h.base live q new (omega arith) h.line })
       (λ b e.
       let base = t + 3000 * flights live in
       let early = leb-false h.base base e in
       record {
         base = base;
         later = omega arith;
-        line = line-more base base live q new (omega arith)
-            (line-rebase r h.base base h.base base live (omega arith) sound (omega arith) h.line);
+        line = line_more base base live q new (omega arith)
+            (line_rebase r h.base base h.base base live (omega arith) sound (omega arith) h.line);
       })
       refl
 
@@ -323,49 +323,49 @@ not_before t (q ∷ qs) {m} e h = go (deadline_in q.state) refl (earliest qs) re
     go (some a) d (some b) r e ih = let f = some_number e in let g = h.0 a d in let k = ih b r in omega arith
 
 module _ (limit t : ℕ) (accepted : Request → ℕ) where
-  ok-until : (base free a : ℕ) (s : State) → Ok limit t base free a s → (d : ℕ) → deadline_in s ≡ some d → t ≤ d
-  ok-until base free a queued h d k = let z : ◌≡◌ {A = ℕ} 0 1 = cc in absurd (omega arith)
-  ok-until base free a (in_flight f) h d k = let g = some_number k in omega arith
-  ok-until base free a (waiting since) h d k = let g = some_number k in omega arith
+  ok_until : (base free a : ℕ) (s : State) → Ok limit t base free a s → (d : ℕ) → deadline_in s ≡ some d → t ≤ d
+  ok_until base free a queued h d k = let z : ◌≡◌ {A = ℕ} 0 1 = cc in absurd (omega arith)
+  ok_until base free a (in_flight f) h d k = let g = some_number k in omega arith
+  ok_until base free a (waiting since) h d k = let g = some_number k in omega arith
 
   pub line_until : (base free : ℕ) (qs : List Request) → Line limit t base free accepted qs → All (Until t) qs
   line_until base free [] h = tt
   line_until base free (q ∷ qs) h = (
-    ok-until base free (accepted q) q.state h.0,
+    ok_until base free (accepted q) q.state h.0,
     line_until base
         (free_after free q.state) qs h.1,
   )
 
   -- time goes on, up to a deadline
-  ok-on : (t' base free a : ℕ) (s : State) → ((d : ℕ) → deadline_in s ≡ some d → t' ≤ d) → Ok limit t base free a s
+  ok_on : (t' base free a : ℕ) (s : State) → ((d : ℕ) → deadline_in s ≡ some d → t' ≤ d) → Ok limit t base free a s
       → Ok limit t' base free a s
-  ok-on t' base free a queued until h = h
-  ok-on t' base free a (in_flight f) until h = (until (deadline f) refl, h.1, h.2)
-  ok-on t' base free a (waiting since) until h = (until (since + response_time) refl, h.1)
+  ok_on t' base free a queued until h = h
+  ok_on t' base free a (in_flight f) until h = (until (deadline f) refl, h.1, h.2)
+  ok_on t' base free a (waiting since) until h = (until (since + response_time) refl, h.1)
 
   line_on : (t' base free : ℕ) (qs : List Request) → All (Until t') qs → Line limit t base free accepted qs
       → Line limit t' base free accepted qs
   line_on t' base free [] until h = tt
   line_on t' base free (q ∷ qs) until h = (
-    ok-on t' base free (accepted q) q.state until.0 h.0,
+    ok_on t' base free (accepted q) q.state until.0 h.0,
     line_on t' base (free_after free q.state) qs until.1
         h.1,
   )
 
   -- the one in flight leaves by base
-  flown-by : (base free : ℕ) (b a : List Request) (q : Request) {f : Frame} → q.state ≡ in_flight f
+  flown_by : (base free : ℕ) (b a : List Request) (q : Request) {f : Frame} → q.state ≡ in_flight f
       → f.transmissions ≤ max_transmissions
       → Line limit t base free accepted (b ++ (q ∷ a)) → deadline f ≤ base
-  flown-by base free [] a q {f} flying few h =
+  flown_by base free [] a q {f} flying few h =
       let ok : Ok limit t base free (accepted q) (in_flight f) =
       subst (Ok limit t base free (accepted q)) flying h.0 in omega arith
-  flown-by base free (x ∷ b) a q flying few h = flown-by base (free_after free x.state) b a q flying few h.1
+  flown_by base free (x ∷ b) a q flying few h = flown_by base (free_after free x.state) b a q flying few h.1
 
   pub timely_busy : (t' : ℕ) (b a : List Request) (q : Request) {f : Frame} → q.state ≡ in_flight f
       → f.transmissions ≤ max_transmissions
       → All (Until t') (b ++ (q ∷ a)) → Timely limit t accepted (b ++ (q ∷ a)) → Timely limit t' accepted (b ++ (q ∷ a))
   timely_busy t' b a q {f} flying few until h =
-      let by = flown-by h.base h.base b a q flying few h.line in
+      let by = flown_by h.base h.base b a q flying few h.line in
       let here = (all_right (Until t') b (q ∷ a) until).0 (deadline f) (rw flying) in
       record { base = h.base; later = omega arith; line = line_on t' h.base h.base (b ++ (q ∷ a)) until h.line }
 
@@ -375,7 +375,7 @@ module _ (limit t : ℕ) (accepted : Request → ℕ) where
       record {
         base = t';
         later = omega arith;
-        line = line-idle limit t' accepted h.base h.base t' t' live down idle
+        line = line_idle limit t' accepted h.base h.base t' t' live down idle
             (line_on t' h.base h.base live until h.line);
       }
 
@@ -386,7 +386,7 @@ module _ (limit t : ℕ) (accepted : Request → ℕ) where
       → All (λ q. t ≤ accepted q + 3000 * limit + 3000) qs
   line_in_time base free [] on more h = tt
   line_in_time base free (q ∷ qs) on more h =
-      let grown = after-grows limit t accepted free q.state in
+      let grown = after_grows limit t accepted free q.state in
       (here q.state h.0, line_in_time base (free_after free q.state) qs on (omega arith) h.1)
     where
       here : (s : State) → Ok limit t base free (accepted q) s → t ≤ accepted q + 3000 * limit + 3000
@@ -404,12 +404,12 @@ module _ (limit t : ℕ) (accepted : Request → ℕ) where
       refl h
 
   -- and less for each that a quiet poll leaves live
-  line-early : (base free : ℕ) (qs : List Request) → t < base → base ≤ free → All (λ q. overdue_in t q.state ≡ none) qs
+  line_early : (base free : ℕ) (qs : List Request) → t < base → base ≤ free → All (λ q. overdue_in t q.state ≡ none) qs
       → Line limit t base free accepted qs → All (λ q. t < accepted q + 3000 * limit + 3000) qs
-  line-early base free [] on more current h = tt
-  line-early base free (q ∷ qs) on more current h =
-      let grown = after-grows limit t accepted free q.state in
-      (here q.state current.0 h.0, line-early base (free_after free q.state) qs on (omega arith) current.1 h.1)
+  line_early base free [] on more current h = tt
+  line_early base free (q ∷ qs) on more current h =
+      let grown = after_grows limit t accepted free q.state in
+      (here q.state current.0 h.0, line_early base (free_after free q.state) qs on (omega arith) current.1 h.1)
     where
       here : (s : State) → overdue_in t s ≡ none → Ok limit t base free (accepted q) s → t < accepted q + 3000 * limit + 3000
       here queued k ok = omega arith
@@ -420,13 +420,13 @@ module _ (limit t : ℕ) (accepted : Request → ℕ) where
       → due f t ≡ false → All (λ x. overdue_in t x.state ≡ none) (b ++ (q ∷ a)) → Timely limit t accepted (b ++ (q ∷ a))
       → All (λ x. t < accepted x + 3000 * limit + 3000) (b ++ (q ∷ a))
   early_busy b a q {f} flying few calm current h =
-      let by = flown-by limit t accepted h.base h.base b a q flying few h.line in
+      let by = flown_by limit t accepted h.base h.base b a q flying few h.line in
       let less = (not_due f t calm).early in
-      line-early h.base h.base (b ++ (q ∷ a)) (omega arith) (omega arith) current h.line
+      line_early h.base h.base (b ++ (q ∷ a)) (omega arith) (omega arith) current h.line
 
   pub early_free : (live : List Request) → All (λ x. flies x ≡ none) live → All (λ x. queued_in x.state ≡ none) live
       → All (λ x. overdue_in t x.state ≡ none) live → Timely limit t accepted live
       → All (λ x. t < accepted x + 3000 * limit + 3000) live
   early_free live down idle current h =
-      line-early (suc h.base) (suc h.base) live (let on = h.later in omega arith) (omega arith) current
-      (line-idle limit t accepted h.base h.base (suc h.base) (suc h.base) live down idle h.line)
+      line_early (suc h.base) (suc h.base) live (let on = h.later in omega arith) (omega arith) current
+      (line_idle limit t accepted h.base h.base (suc h.base) (suc h.base) live down idle h.line)

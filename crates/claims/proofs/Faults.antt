@@ -20,7 +20,7 @@ use Rattle.ledger.specs.Parts.{State, queued, in_flight, waiting, Request, Ledge
 use Rattle.ledger.specs.Answers as answer
 use Rattle.ledger.specs.Answers.{stray, Ending, no_response}
 use Rattle.ledger.specs.Receiving as receiving
-use Rattle.ledger.specs.Receiving.{only, flies, provided, acknowledged_in, onAck, onNak, is_sent, matches, command_in, onResponse, onData, onMessage, ack_message}
+use Rattle.ledger.specs.Receiving.{only, flies, provided, acknowledged_in, on_ack, on_nak, is_sent, matches, command_in, on_response, on_data, on_message, ack_message}
 use Rattle.ledger.specs.Polling as polling
 use Rattle.ledger.specs.Polling.{response_time, overdue_in, queued_in}
 use Rattle.claims.specs.PlainTerms.{counts, Matched}
@@ -31,10 +31,10 @@ use Rattle.ledger.proofs.Searches.{Looked, one_shows, look, find_oldest, find_no
 
 -- 1. "An ACK for an older SEQ ending the frame now in flight.": an ACK with another SEQ than that in flight does nothing
 module _ (l : Ledger) (t seq : ℕ) (payload : List ℕ) where
-  shown-seq : (s : State) {f : Frame} → acknowledged_in seq s ≡ some f → (s ≡ in_flight f) × (f.seq ≡ seq)
-  shown-seq queued h = let z : ◌≡◌ {A = ℕ} 0 1 = cc in absurd (omega arith)
-  shown-seq (waiting since) h = let z : ◌≡◌ {A = ℕ} 0 1 = cc in absurd (omega arith)
-  shown-seq (in_flight g) {f} h =
+  shown_seq : (s : State) {f : Frame} → acknowledged_in seq s ≡ some f → (s ≡ in_flight f) × (f.seq ≡ seq)
+  shown_seq queued h = let z : ◌≡◌ {A = ℕ} 0 1 = cc in absurd (omega arith)
+  shown_seq (waiting since) h = let z : ◌≡◌ {A = ℕ} 0 1 = cc in absurd (omega arith)
+  shown_seq (in_flight g) {f} h =
       by_test (λ b. acknowledged_by g seq ≡ b → provided b g ≡ some f → (in_flight g ≡ in_flight f) × (f.seq ≡ seq))
       (acknowledged_by g seq)
       (λ b e k. let same : g ≡ f = cc in (ap {B = State} in_flight same, rw (sym same) (eqb-true g.seq seq e)))
@@ -42,21 +42,21 @@ module _ (l : Ledger) (t seq : ℕ) (payload : List ℕ) where
       refl h
 
   pub other_ack_is_stray : All (λ q. (f : Frame) → q.state ≡ in_flight f → f.seq ≡ seq → ⊥) l.live
-      → onMessage l t ack seq payload ≡ only l t stray
-  unfolding onMessage
+      → on_message l t ack seq payload ≡ only l t stray
+  unfolding on_message
   other_ack_is_stray others = go (oldest (λ q. acknowledged_in seq q.state) l.live)
       (look (λ q. acknowledged_in seq q.state) l.live)
     where
-      go : (s : Search Frame) → Looked (λ q. acknowledged_in seq q.state) l.live s → onAck l t s ≡ only l t stray
+      go : (s : Search Frame) → Looked (λ q. acknowledged_in seq q.state) l.live s → on_ack l t s ≡ only l t stray
       go nobody h = refl
       go (somebody b it f a) (one_shows among shown before) =
-          let its = shown-seq it.state shown in
+          let its = shown_seq it.state shown in
           let here = (all_right (λ q. (f : Frame) → q.state ≡ in_flight f → f.seq ≡ seq → ⊥) b (it ∷ a) (rw among at others)).0 in
           absurd (here f its.0 its.1)
 
 -- 2. "A NAK that restarts the count of transmissions.": a NAK leaves every count
-pub nak_keeps_counts : (l : Ledger) (t seq : ℕ) (payload : List ℕ) → counts (onMessage l t nak seq payload).live ≡ counts l.live
-unfolding onMessage
+pub nak_keeps_counts : (l : Ledger) (t seq : ℕ) (payload : List ℕ) → counts (on_message l t nak seq payload).live ≡ counts l.live
+unfolding on_message
 nak_keeps_counts l t seq payload = go (oldest flies l.live) (look flies l.live)
   where
     behind : (b a : List Request) (it : Request) (f : Frame) → flies it ≡ some f
@@ -64,22 +64,22 @@ nak_keeps_counts l t seq payload = go (oldest flies l.live) (look flies l.live)
     behind [] a it f h = rw h
     behind (x ∷ b) a it f h = ap (map (λ (g : Frame). g.transmissions) (flies x) ∷◌) (behind b a it f h)
 
-    go : (s : Search Frame) → Looked flies l.live s → counts (onNak l t s).live ≡ counts l.live
+    go : (s : Search Frame) → Looked flies l.live s → counts (on_nak l t s).live ≡ counts l.live
     go nobody h = refl
     go (somebody b it f a) (one_shows among shown before) = behind b a it f shown ∙ ap counts (sym among)
 
 -- 3. "A repeat left unacknowledged": every DATA_SEQ is replied to with an ACK of its SEQ, a repeat too
 pub sequenced_is_acknowledged : (l : Ledger) (t seq : ℕ) (payload : List ℕ)
-    → (onMessage l t data_seq seq payload).reply ≡ ack_message seq
-unfolding onMessage
+    → (on_message l t data_seq seq payload).reply ≡ ack_message seq
+unfolding on_message
 sequenced_is_acknowledged l t seq payload = refl
 
 -- 4. "A response matched by request ID alone.": what a response ends agrees in every field
 module _ (l : Ledger) (t : ℕ) (payload : List ℕ) (x : Ending) where
-  every-field : (b a : List Request) (q : Request) → l.live ≡ b ++ (q ∷ a) → x.id ≡ q.id → matches (command_in payload) q ≡ true
+  every_field : (b a : List Request) (q : Request) → l.live ≡ b ++ (q ∷ a) → x.id ≡ q.id → matches (command_in payload) q ≡ true
       → Matched l payload x
   unfolding matches answers
-  every-field b a q among ended h =
+  every_field b a q among ended h =
       let f = q.fields in
       let g = fields_in payload in
       let one = both (is_sent q.state) _ h in
@@ -117,17 +117,17 @@ module _ (l : Ledger) (t : ℕ) (payload : List ℕ) (x : Ending) where
   }
 
   abbrev response : receiving.Act
-  response = onResponse l t (command_in payload) (data_in payload)
+  response = on_response l t (command_in payload) (data_in payload)
       (oldest (λ q. provided (matches (command_in payload) q) tt) l.live)
 
-  by-response : (s : Search (Unit {0})) → Looked (λ q. provided (matches (command_in payload) q) tt) l.live s
-      → (onResponse l t (command_in payload) (data_in payload) s).ending ≡ some x → Matched l payload x
-  by-response nobody h ends = let z : ◌≡◌ {A = ℕ} 0 1 = cc in absurd (omega arith)
-  by-response (somebody b it what a) (one_shows among shown before) ends =
-      let named : x.id ≡ it.id = cc in every-field b a it among named (provided_test (matches (command_in payload) it) shown)
+  by_response : (s : Search (Unit {0})) → Looked (λ q. provided (matches (command_in payload) q) tt) l.live s
+      → (on_response l t (command_in payload) (data_in payload) s).ending ≡ some x → Matched l payload x
+  by_response nobody h ends = let z : ◌≡◌ {A = ℕ} 0 1 = cc in absurd (omega arith)
+  by_response (somebody b it what a) (one_shows among shown before) ends =
+      let named : x.id ≡ it.id = cc in every_field b a it among named (provided_test (matches (command_in payload) it) shown)
 
-  pub response_matches_every_field : (onData l t payload).ending ≡ some x → Matched l payload x
-  unfolding onData
+  pub response_matches_every_field : (on_data l t payload).ending ≡ some x → Matched l payload x
+  unfolding on_data
   response_matches_every_field ends =
       let c = command_in payload in
       by_test (λ b. (if b (only l t answer.not_command) (if (leb 1 c.rqid && leb c.rqid l.reserved) told response)).ending
@@ -137,7 +137,7 @@ module _ (l : Ledger) (t : ℕ) (payload : List ℕ) (x : Ending) where
       (λ e h. by_test (λ b. (if b told response).ending ≡ some x → Matched l payload x)
       (leb 1 c.rqid && leb c.rqid l.reserved)
       (λ e h. let z : ◌≡◌ {A = ℕ} 0 1 = cc in absurd (omega arith))
-      (λ e h. by-response (oldest (λ q. provided (matches c q) tt) l.live) (look (λ q. provided (matches c q) tt) l.live) h)
+      (λ e h. by_response (oldest (λ q. provided (matches c q) tt) l.live) (look (λ q. provided (matches c q) tt) l.live) h)
       h)
       ends
 
@@ -150,7 +150,7 @@ pub overdue_ends_first : (l : Ledger) (t : ℕ) (b a : List Request) (q : Reques
     → q.state ≡ waiting since → since + response_time ≤ t → All (λ x. overdue_in t x.state ≡ none) b
     → polling.act l t ≡ polling.ends l t no_response b q a
 unfolding polling.act
-overdue_ends_first l t b a q since among waits late none_before = rw (oldest-here among)
+overdue_ends_first l t b a q since among waits late none_before = rw (oldest_here among)
   where
     overdue : overdue_in t q.state ≡ some tt
     overdue = rw (waits, le-leb response_time (t - since) (omega arith))
@@ -159,8 +159,8 @@ overdue_ends_first l t b a q since among waits late none_before = rw (oldest-her
         → oldest (λ x. overdue_in t x.state) (b ++ (q ∷ a)) ≡ somebody b q tt a
     find b h = find_oldest (λ x. overdue_in t x.state) b a q overdue h
 
-    oldest-here : l.live ≡ b ++ (q ∷ a) → oldest (λ x. overdue_in t x.state) l.live ≡ somebody b q tt a
-    oldest-here e = rw e (find b none_before)
+    oldest_here : l.live ≡ b ++ (q ∷ a) → oldest (λ x. overdue_in t x.state) l.live ≡ somebody b q tt a
+    oldest_here e = rw e (find b none_before)
 
 -- Poll's step 3: where none is overdue and none in flight, the oldest queued request is sent, with the next SEQ
 pub oldest_queued_is_sent : (l : Ledger) (t : ℕ) (b a : List Request) (q : Request) → l.live ≡ b ++ (q ∷ a) → q.state ≡ queued

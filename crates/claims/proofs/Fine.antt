@@ -117,12 +117,12 @@ distinct_more (x ∷ live) q new h =
 -- time goes on
 pub later : {r t t' : ℕ} → t ≤ t' → (q : Request) → Sound r t q → Sound r t' q
 later {r} {t} {t'} go_on q h =
-    record { unreserved = h.unreserved; short = h.short; steady = steady-later q.wanted q.state h.steady }
+    record { unreserved = h.unreserved; short = h.short; steady = steady_later q.wanted q.state h.steady }
   where
-    steady-later : (w : Bool) (s : State) → Steady t w s → Steady t' w s
-    steady-later w queued k = tt
-    steady-later w (in_flight f) k = (k.0, k.1, omega arith)
-    steady-later w (waiting since) k = (k.0, omega arith)
+    steady_later : (w : Bool) (s : State) → Steady t w s → Steady t' w s
+    steady_later w queued k = tt
+    steady_later w (in_flight f) k = (k.0, k.1, omega arith)
+    steady_later w (waiting since) k = (k.0, omega arith)
 
 -- none in flight
 none_flying : (live : List Request) → All (λ q. flies q ≡ none) live → flights live ≡ 0
@@ -150,9 +150,9 @@ turned l t q (sends_again {f} late may) h =
     let again = may_go_again_law f may in record { steady = (omega arith, omega arith, omega arith); lighter = inl (omega arith) }
 
 module _ {limit r t : ℕ} where
-  fit-less : (b a : List Request) (q : Request) → Fit limit r t (b ++ (q ∷ a)) → Fit limit r t (b ++ a)
+  fit_less : (b a : List Request) (q : Request) → Fit limit r t (b ++ (q ∷ a)) → Fit limit r t (b ++ a)
   unfolding flights
-  fit-less b a q h =
+  fit_less b a q h =
       let shorter = length-append b (q ∷ a) in
       let short = length-append b a in
       let before = flights_append b (q ∷ a) in
@@ -166,10 +166,10 @@ module _ {limit r t : ℕ} where
         one = omega arith;
       }
 
-  fit-turn : (l : Ledger) (b a : List Request) (q : Request) {s : State} {frame : Option (List ℕ)} → Turn l t q q.state s frame
+  fit_turn : (l : Ledger) (b a : List Request) (q : Request) {s : State} {frame : Option (List ℕ)} → Turn l t q q.state s frame
       → (q.state ≡ queued → flights (b ++ (q ∷ a)) ≡ 0) → Fit limit r t (b ++ (q ∷ a)) → Fit limit r t (b ++ (with_state s q ∷ a))
   unfolding flights
-  fit-turn l b a q {s} turn free h =
+  fit_turn l b a q {s} turn free h =
       let here = all_right (Sound r t) b (q ∷ a) h.each in
       let was = here.0 in
       let now = turned l t q turn was.steady in
@@ -190,10 +190,10 @@ module _ {limit r t : ℕ} where
       count (inl lighter) one before after = omega arith
       count (inr (first, once)) one before after = let none = free first in omega arith
 
-  fit-more : (live : List Request) (q : Request) → q.state ≡ queued → Unreserved r q.id → length q.bytes ≤ max_data
+  fit_more : (live : List Request) (q : Request) → q.state ≡ queued → Unreserved r q.id → length q.bytes ≤ max_data
       → is_live q.id live ≡ false → (length live ≡ limit → ⊥) → Fit limit r t live → Fit limit r t (live ++ (q ∷ []))
   unfolding flights
-  fit-more live q new unreserved short free room h =
+  fit_more live q new unreserved short free room h =
       let longer = length-append live (q ∷ []) in
       let more = flights_append live (q ∷ []) in
       let few = h.few in
@@ -220,8 +220,8 @@ module _ (limit : ℕ) (l : Ledger) (h : Fine limit l) where
   abbrev IssuesFree : Done → Type 0
   IssuesFree d = (id : ℕ) → id_in d.answer ≡ some id → (length l.live ≡ limit → ⊥) → is_live (issued l) l.live ≡ false
 
-  fit-change : {t : ℕ} {d : Done} → l.clock ≤ t → IssuesFree d → Change limit l t d → Fit limit l.reserved t d.next.live
-  fit-change {t} {d} go_on free change = go change
+  fit_change : {t : ℕ} {d : Done} → l.clock ≤ t → IssuesFree d → Change limit l t d → Fit limit l.reserved t d.next.live
+  fit_change {t} {d} go_on free change = go change
     where
       now : Fit limit l.reserved t l.live
       now =
@@ -241,18 +241,18 @@ module _ (limit : ℕ) (l : Ledger) (h : Fine limit l) where
       go (stays shows e) = rw e now
       go (rests_free current free idle shows e) = rw e now
       go (rests_busy current b a q f among flying calm shows e) = rw e now
-      go (leaves b a q x among named shows e) = rw e (fit-less b a q (rw among at now))
+      go (leaves b a q x among named shows e) = rw e (fit_less b a q (rw among at now))
       go (turns b a q s frame among turn first shows e) =
-          rw e (fit-turn l b a q turn (λ new. ap flights (sym among) ∙ none_flying l.live (first new).0) (rw among at now))
+          rw e (fit_turn l b a q turn (λ new. ap flights (sym among) ∙ none_flying l.live (first new).0) (rw among at now))
       go (joins q new named short room shows e) =
-          rw e (fit-more l.live q new (rw named (free_unreserved l.reserved small (length l.live) l.live h.next))
+          rw e (fit_more l.live q new (rw named (free_unreserved l.reserved small (length l.live) l.live h.next))
           short
           (rw named (free q.id shows.asks room)) room now)
 
-  fine-kept : (c : Call) {d : Done} → IssuesFree d → View limit l c d → Fine limit d.next
-  fine-kept c free (refuses n refused buffers same) = rw same h
-  fine-kept c {d} free (accepts go_on accepted keeps change) =
-      let fit = fit-change go_on free change in
+  fine_kept : (c : Call) {d : Done} → IssuesFree d → View limit l c d → Fine limit d.next
+  fine_kept c free (refuses n refused buffers same) = rw same h
+  fine_kept c {d} free (accepts go_on accepted keeps change) =
+      let fit = fit_change go_on free change in
       let small = h.small in
       let below : l.reserved < last_id = omega arith in
       record {
@@ -269,13 +269,13 @@ module _ (limit : ℕ) (l : Ledger) (h : Fine limit l) where
           rw e (after_unreserved l.reserved below (free_unreserved l.reserved below (length l.live) l.live h.next))
 
 pub fine_step : (limit : ℕ) → Enough limit → (l : Ledger) (c : Call) {d : Done} → Fine limit l → View limit l c d → Fine limit d.next
-fine_step limit enough l c h v = fine-kept limit l h c (λ id asked room. issued_free limit enough l h room) v
+fine_step limit enough l c h v = fine_kept limit l h c (λ id asked room. issued_free limit enough l h room) v
 
 -- a call that issues no ID, whatever the limit
 pub fine_calm : (limit : ℕ) (l : Ledger) (c : Call) {d : Done} → id_in d.answer ≡ none → Fine limit l → View limit l c d
     → Fine limit d.next
 fine_calm limit l c unasked h v =
-    fine-kept limit l h c (λ id asked room. (let z : ◌≡◌ {A = ℕ} 0 1 = cc in absurd (omega arith))) v
+    fine_kept limit l h c (λ id asked room. (let z : ◌≡◌ {A = ℕ} 0 1 = cc in absurd (omega arith))) v
 
 -- none of the malformed rule's clauses holds
 none_of : (test : Request → Bool) (P : Request → Type 0) → ((q : Request) → P q → test q ≡ false) → (live : List Request)

@@ -19,7 +19,7 @@ use Rattle.link.specs.Frames.{due, may_go_again}
 use Rattle.ledger.specs.Parts.{live_max, oldest}
 use Rattle.ledger.specs.Submitting.{id_after, is_live, first_free}
 use Rattle.ledger.specs.Receiving as receiving
-use Rattle.ledger.specs.Receiving.{onMessage}
+use Rattle.ledger.specs.Receiving.{on_message}
 use Rattle.ledger.specs.Polling as polling
 use Rattle.ledger.specs.Polling.{earliest}
 use Rattle.ledger.specs.Calls.{Call, submit, receive, poll}
@@ -31,7 +31,7 @@ use Rattle.claims.specs.Hearing.{bytes_taken, items_answered, last_receive, item
 
 -- all that a list is computed with
 computed : Unit {0}
-unfolding run step first_of malformed flights two_equal some_of polling.act earliest receiving.receive onMessage first_free is_live id_after oldest due may_go_again seq_after
+unfolding run step first_of malformed flights two_equal some_of polling.act earliest receiving.receive on_message first_free is_live id_after oldest due may_go_again seq_after
     payload line.receive taken smallest placed scan dropped stands rules payload_of allowed bytes.message body header fields le16 checksum_of checksum_from with_bits with_bit bits_of
     handed handed_in bytes_taken items_answered last_receive
 computed = tt

@@ -52,27 +52,27 @@ module _ (past : List Entry) (l : Ledger) (bytes reply buffer : List ℕ) (t : �
   with_it does = entry_of (receive bytes reply buffer t) (receiving.received_as l r does reply buffer t) ∷ past
 
   -- the bytes that it takes come next
-  next-joined : (next : Heard) → handed l.held (take r.taken bytes) ≡ next
+  next_joined : (next : Heard) → handed l.held (take r.taken bytes) ≡ next
       → handed [] (bytes_taken past ++ take r.taken bytes) ≡ before h.items next
-  next-joined next e =
+  next_joined next e =
       handed_on [] (bytes_taken past) (take r.taken bytes) l.held h.items h.whole ∙ ap (before h.items) e
 
-  hears-receive : (does : receiving.Act) (a : line.Answer) → r.answer ≡ a → Hears (with_it does) r.held
+  hears_receive : (does : receiving.Act) (a : line.Answer) → r.answer ≡ a → Hears (with_it does) r.held
   unfolding bytes_taken items_answered last_receive
-  hears-receive does more said = record {
+  hears_receive does more said = record {
     items = h.items;
     answered = rw (said, append-nil (items_answered past)) h.answered;
-    whole = next-joined (handed r.held [])
+    whole = next_joined (handed r.held [])
         (taken_handed l.held bytes ∙ rw said (sym (more_rests l.held bytes said)));
     rests = λ last. more_rests l.held bytes said;
   }
-  hears-receive does (item i) said =
+  hears_receive does (item i) said =
       let it = found i r.payload ∷ [] in
       let rest = handed r.held [] in
       record {
         items = h.items ++ it;
         answered = rw said (map-append item_of h.items it ∙ rw h.answered);
-        whole = next-joined (before it rest) (taken_handed l.held bytes ∙ rw said)
+        whole = next_joined (before it rest) (taken_handed l.held bytes ∙ rw said)
             ∙ ap (λ (items : List Found). record { items = items; held = rest.held }) (sym (append_assoc h.items it rest.items));
         rests = λ last. (let z : ◌≡◌ {A = ℕ} 0 1 = cc in absurd (omega arith));
       }
@@ -83,26 +83,26 @@ HearsNext past c d = Hears (entry_of c d ∷ past) d.next.held
 
 module _ (past : List Entry) (l : Ledger) (h : Hears past l.held) where
   -- an accepted one
-  hears-accepted : (c : Call) → HearsNext past c (accepts l c)
+  hears_accepted : (c : Call) → HearsNext past c (accepts l c)
   unfolding receiving.receive
-  hears-accepted (submit fields bytes wanted t) = calm _ past l.held refl refl (λ a. refl) h
-  hears-accepted (receive bytes reply buffer t) =
+  hears_accepted (submit fields bytes wanted t) = calm _ past l.held refl refl (λ a. refl) h
+  hears_accepted (receive bytes reply buffer t) =
       let got = line.receive l.held bytes in
-      hears-receive past l bytes reply buffer t h (receiving.act l t got.answer got.payload) got.answer refl
-  hears-accepted (poll output t) = by-act (polling.act l t)
+      hears_receive past l bytes reply buffer t h (receiving.act l t got.answer got.payload) got.answer refl
+  hears_accepted (poll output t) = by_act (polling.act l t)
     where
-      by-act : (a : polling.Act) → HearsNext past (poll output t) (polling.polled_as l a output t)
-      by-act (polling.does p bytes next live) = calm _ past l.held refl refl (λ a. refl) h
+      by_act : (a : polling.Act) → HearsNext past (poll output t) (polling.polled_as l a output t)
+      by_act (polling.does p bytes next live) = calm _ past l.held refl refl (λ a. refl) h
 
   -- and a refused one
-  hears-next : (c : Call) (refusal : Option ℕ) → HearsNext past c (answers_to l c refusal)
-  hears-next c none = hears-accepted c
-  hears-next c (some n) = calm _ past l.held refl refl (λ a. refl) h
+  hears_next : (c : Call) (refusal : Option ℕ) → HearsNext past c (answers_to l c refusal)
+  hears_next c none = hears_accepted c
+  hears_next c (some n) = calm _ past l.held refl refl (λ a. refl) h
 
 hears_step : (limit : ℕ) (s : Run) (c : Call) → Hears s.past s.ledger.held
     → Hears (then limit s c).past (then limit s c).ledger.held
 unfolding step
-hears_step limit s c h = hears-next s.past s.ledger h c (refusal limit s.ledger c)
+hears_step limit s c h = hears_next s.past s.ledger h c (refusal limit s.ledger c)
 
 hears_run : (limit : ℕ) (s : Run) (cs : List Call) → Hears s.past s.ledger.held
     → Hears (run limit s cs).past (run limit s cs).ledger.held
@@ -143,6 +143,6 @@ all_answered limit given cs last =
     record { items = rw (h.whole, rests, append-nil h.items) h.answered; held = rw (h.whole, rests) }
 
 -- and they depend on the bytes alone
-pub alike : (past other : List Entry) (kept otherKept : List ℕ) → HeardAll past kept → HeardAll other otherKept
-    → bytes_taken past ≡ bytes_taken other → HeardAlike past other kept otherKept
-alike past other kept otherKept a b same = record { items = sym a.items ∙ rw same b.items; held = sym a.held ∙ rw same b.held }
+pub alike : (past other : List Entry) (kept other_kept : List ℕ) → HeardAll past kept → HeardAll other other_kept
+    → bytes_taken past ≡ bytes_taken other → HeardAlike past other kept other_kept
+alike past other kept other_kept a b same = record { items = sym a.items ∙ rw same b.items; held = sym a.held ∙ rw same b.held }

@@ -74,15 +74,15 @@ belongs_at (x ∷ newer) before e h = belongs_at newer before e h.1
 
 -- the last request with an ID is there, and is live
 named : (id : ℕ) (before : List Entry) → Owner id before → Named id before
-named id before owner = record { asked = there-is; live = is-live-one }
+named id before owner = record { asked = there_is; live = is_live_one }
   where
-    there-is : last_asked id before ≡ none → ⊥
-    there-is h =
+    there_is : last_asked id before ≡ none → ⊥
+    there_is h =
         let last = owner.last in
         let z : ◌≡◌ {A = ℕ} 0 1 = cc in omega arith
 
-    is-live-one : (a : Asked) → last_asked id before ≡ some a → a ∈ live_after before
-    is-live-one a h =
+    is_live_one : (a : Asked) → last_asked id before ≡ some a → a ∈ live_after before
+    is_live_one a h =
         let last = owner.last in
         let same : owner.request ≡ a = cc in
         subst (λ (x : Asked). x ∈ live_after before) same owner.live

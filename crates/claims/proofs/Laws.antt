@@ -22,7 +22,7 @@ use Rattle.ledger.specs.Answers.{no_response, stray, Ending, Receipt, Poll, quie
 use Rattle.ledger.specs.Numbers.{numbers_of, in_order, refusal_alone}
 use Rattle.ledger.specs.NumberRows.{AllTell, tellings}
 use Rattle.ledger.specs.Submitting.{last_id, is_live, issued}
-use Rattle.ledger.specs.Receiving.{flies, only, onData, onMessage, ack_message}
+use Rattle.ledger.specs.Receiving.{flies, only, on_data, on_message, ack_message}
 use Rattle.ledger.specs.Polling as polling
 use Rattle.ledger.specs.Polling.{response_time, overdue_in, queued_in}
 use Rattle.ledger.specs.Calls.{Call, submit, receive, poll, reading_of, lent_by}
@@ -129,25 +129,25 @@ receive_changes limit l bytes reply buffer t r h = keeping.receive_changes limit
 -- an ACK with the SEQ in flight: a request that wants a response waits from the reading of its ACK
 pub waits_from_its_ack : (l : Ledger) (t : ℕ) (b a : List Request) (q : Request) (f : Frame) (payload : List ℕ)
     → l.live ≡ b ++ (q ∷ a) → flights b ≡ 0 → q.state ≡ in_flight f → q.wanted ≡ true
-    → (onMessage l t ack f.seq payload).live ≡ b ++ (with_state (waiting t) q ∷ a)
+    → (on_message l t ack f.seq payload).live ≡ b ++ (with_state (waiting t) q ∷ a)
 waits_from_its_ack l t b a q f payload among alone flying wanted = keeping.ack_waits l t b a q f payload among alone flying wanted
 
 -- an ACK with another SEQ than that in flight is *stray*
 pub other_ack_is_stray : (l : Ledger) (t seq : ℕ) (payload : List ℕ)
-    → All (λ q. (f : Frame) → q.state ≡ in_flight f → f.seq ≡ seq → ⊥) l.live → onMessage l t ack seq payload ≡ only l t stray
+    → All (λ q. (f : Frame) → q.state ≡ in_flight f → f.seq ≡ seq → ⊥) l.live → on_message l t ack seq payload ≡ only l t stray
 other_ack_is_stray l t seq payload others = faults.other_ack_is_stray l t seq payload others
 
 -- a NAK leaves the counts of transmissions
-pub nak_keeps_counts : (l : Ledger) (t seq : ℕ) (payload : List ℕ) → counts (onMessage l t nak seq payload).live ≡ counts l.live
+pub nak_keeps_counts : (l : Ledger) (t seq : ℕ) (payload : List ℕ) → counts (on_message l t nak seq payload).live ≡ counts l.live
 nak_keeps_counts l t seq payload = faults.nak_keeps_counts l t seq payload
 
 -- every DATA_SEQ is acknowledged, a repeat too
 pub sequenced_is_acknowledged : (l : Ledger) (t seq : ℕ) (payload : List ℕ)
-    → (onMessage l t data_seq seq payload).reply ≡ ack_message seq
+    → (on_message l t data_seq seq payload).reply ≡ ack_message seq
 sequenced_is_acknowledged l t seq payload = faults.sequenced_is_acknowledged l t seq payload
 
 -- what a response ends agrees with it in every field
-pub response_matches_every_field : (l : Ledger) (t : ℕ) (payload : List ℕ) (x : Ending) → (onData l t payload).ending ≡ some x
+pub response_matches_every_field : (l : Ledger) (t : ℕ) (payload : List ℕ) (x : Ending) → (on_data l t payload).ending ≡ some x
     → Matched l payload x
 response_matches_every_field l t payload x ends = faults.response_matches_every_field l t payload x ends
 

@@ -141,14 +141,14 @@ module _ (h h' : List Entry) (q : Request) (keep : (x : Asked) (y : Request) →
         ne_eqb gone.place x.place (λ same. apart (sym (one_name q.id y.id h its own.last same)))
 
     -- where one leaves, its owner leaves
-    owners-after : (live : List Asked) (a : List Request) → All (Apart q) a → Owners h live a
+    owners_after : (live : List Asked) (a : List Request) → All (Apart q) a → Owners h live a
         → Owners h' (without (some gone) live) a
     unfolding without
-    owners-after [] [] apart own = tt
-    owners-after [] (y ∷ a) apart own = absurd own
-    owners-after (x ∷ live) [] apart own = absurd own
-    owners-after (x ∷ live) (y ∷ a) apart own =
-        rw (elsewhere x y apart.0 own.0) (keep x y apart.0 own.0, owners-after live a apart.1 own.1)
+    owners_after [] [] apart own = tt
+    owners_after [] (y ∷ a) apart own = absurd own
+    owners_after (x ∷ live) [] apart own = absurd own
+    owners_after (x ∷ live) (y ∷ a) apart own =
+        rw (elsewhere x y apart.0 own.0) (keep x y apart.0 own.0, owners_after live a apart.1 own.1)
 
     pub owners_leave : (live : List Asked) (b a : List Request) → All (Apart q) b → All (Apart q) a → Owners h live (b ++ (q ∷ a))
         → Owners h' (without (some gone) live) (b ++ a)
@@ -156,7 +156,7 @@ module _ (h h' : List Entry) (q : Request) (keep : (x : Asked) (y : Request) →
     owners_leave [] [] a before after own = absurd own
     owners_leave (x ∷ live) [] a before after own =
         let same : gone ≡ x = some_same (sym its ∙ own.0.last) in
-        rw (eq-eqb gone.place x.place (ap (λ (y : Asked). y.place) same)) (owners-after live a after own.1)
+        rw (eq-eqb gone.place x.place (ap (λ (y : Asked). y.place) same)) (owners_after live a after own.1)
     owners_leave [] (y ∷ b) a before after own = absurd own
     owners_leave (x ∷ live) (y ∷ b) a before after own =
         rw (elsewhere x y before.0 own.0) (keep x y before.0 own.0, owners_leave live b a before.1 after own.1)

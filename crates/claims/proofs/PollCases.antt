@@ -34,16 +34,16 @@ pub data Acted (l : Ledger) (t : ℕ) : Act → Type 0 where
 -- by the first step that applies
 module _ (l : Ledger) (t : ℕ) where
   module _ (current : All (λ x. overdue_in t x.state ≡ none) l.live) where
-    by-step3 : All (λ x. flies x ≡ none) l.live → (s : Search (Unit {0})) → Looked (λ q. queued_in q.state) l.live s
+    by_step3 : All (λ x. flies x ≡ none) l.live → (s : Search (Unit {0})) → Looked (λ q. queued_in q.state) l.live s
         → Acted l t (or_else (step3 l t nobody s) (step4 l t))
-    by-step3 free nobody (none_shows h) = quiet_free current free h
-    by-step3 free (somebody b it u a) (one_shows among shown h) = goes_first b a it among (queued_state it.state shown) free h
+    by_step3 free nobody (none_shows h) = quiet_free current free h
+    by_step3 free (somebody b it u a) (one_shows among shown h) = goes_first b a it among (queued_state it.state shown) free h
 
-    by-step2 : (s : Search Frame) → Looked flies l.live s
+    by_step2 : (s : Search Frame) → Looked flies l.live s
         → Acted l t (or_else (step2 l t s) (or_else (step3 l t s (oldest (λ q. queued_in q.state) l.live)) (step4 l t)))
-    by-step2 nobody (none_shows free) =
-        by-step3 free (oldest (λ q. queued_in q.state) l.live) (look (λ q. queued_in q.state) l.live)
-    by-step2 (somebody b it f a) (one_shows among shown h) =
+    by_step2 nobody (none_shows free) =
+        by_step3 free (oldest (λ q. queued_in q.state) l.live) (look (λ q. queued_in q.state) l.live)
+    by_step2 (somebody b it f a) (one_shows among shown h) =
         let flying = flies_state it.state shown in
         let over = ends l t no_acknowledgement b it a in
         let again = sends l t (sent_again f t) l.next_seq b it a in
@@ -53,12 +53,12 @@ module _ (l : Ledger) (t : ℕ) where
         (λ may. gives_up b a it f among flying late))
         (λ calm. quiet_busy current b a it f among flying calm)
 
-  by-step1 : (s : Search (Unit {0})) → Looked (λ q. overdue_in t q.state) l.live s
+  by_step1 : (s : Search (Unit {0})) → Looked (λ q. overdue_in t q.state) l.live s
       → Acted l t (or_else (step1 l t s) (or_else (step2 l t (oldest flies l.live))
       (or_else (step3 l t (oldest flies l.live) (oldest (λ q. queued_in q.state) l.live)) (step4 l t))))
-  by-step1 nobody (none_shows current) = by-step2 current (oldest flies l.live) (look flies l.live)
-  by-step1 (somebody b it u a) (one_shows among shown h) = no_response_law b a it among shown
+  by_step1 nobody (none_shows current) = by_step2 current (oldest flies l.live) (look flies l.live)
+  by_step1 (somebody b it u a) (one_shows among shown h) = no_response_law b a it among shown
 
   pub acted : Acted l t (act l t)
   unfolding act
-  acted = by-step1 (oldest (λ q. overdue_in t q.state) l.live) (look (λ q. overdue_in t q.state) l.live)
+  acted = by_step1 (oldest (λ q. overdue_in t q.state) l.live) (look (λ q. overdue_in t q.state) l.live)

@@ -74,41 +74,41 @@ waits_till t w (in_flight f) k h i = let z : ◌≡◌ {A = ℕ} 0 1 = cc in abs
 waits_till t w (waiting since) k h i = record { since = since; till = refl; started = k.1 }
 
 module _ (r t : ℕ) where
-  near-free : (live : List Request) → All (Sound r t) live → All (λ q. flies q ≡ none) live
+  near_free : (live : List Request) → All (Sound r t) live → All (λ q. flies q ≡ none) live
       → All (λ q. queued_in q.state ≡ none) live
       → (m : ℕ) → earliest live ≡ some m → m ≤ t + response_time
   unfolding earliest
-  near-free [] k h i m e = let z : ◌≡◌ {A = ℕ} 0 1 = cc in absurd (omega arith)
-  near-free (q ∷ qs) k h i m e =
+  near_free [] k h i m e = let z : ◌≡◌ {A = ℕ} 0 1 = cc in absurd (omega arith)
+  near_free (q ∷ qs) k h i m e =
       let w = waits_till t q.wanted q.state k.0.steady h.0 i.0 in
       let first = (least (q ∷ qs) e).0 (w.since + response_time) w.till in
       let started = w.started in
       omega arith
 
-  empty-free : (live : List Request) → All (Sound r t) live → All (λ q. flies q ≡ none) live
+  empty_free : (live : List Request) → All (Sound r t) live → All (λ q. flies q ≡ none) live
       → All (λ q. queued_in q.state ≡ none) live
       → earliest live ≡ none → live ≡ []
-  empty-free [] k h i e = refl
-  empty-free (q ∷ qs) k h i e =
+  empty_free [] k h i e = refl
+  empty_free (q ∷ qs) k h i e =
       let w = waits_till t q.wanted q.state k.0.steady h.0 i.0 in
       let never = (no_deadline (suc (w.since + response_time)) (q ∷ qs) e).0 (w.since + response_time) w.till in
       absurd (omega arith)
 
   -- where all wait
-  when-free : (live : List Request) → All (Sound r t) live → All (λ q. overdue_in t q.state ≡ none) live
+  when_free : (live : List Request) → All (Sound r t) live → All (λ q. overdue_in t q.state ≡ none) live
       → All (λ q. flies q ≡ none) live
       → All (λ q. queued_in q.state ≡ none) live → QuietTime live (map (◌- t) (earliest live))
-  when-free live sound current down idle =
+  when_free live sound current down idle =
       by_deadlines t live
       (all_both (λ q. overdue_in t q.state ≡ none) (λ q. flies q ≡ none) (Until (suc t)) (waits_on t) live current down)
-      (near-free live sound down idle) (empty-free live sound down idle)
+      (near_free live sound down idle) (empty_free live sound down idle)
 
   -- where one is in flight
-  when-busy : (b a : List Request) (q : Request) (f : Frame) → All (Sound r t) (b ++ (q ∷ a)) → flights (b ++ (q ∷ a)) ≤ 1
+  when_busy : (b a : List Request) (q : Request) (f : Frame) → All (Sound r t) (b ++ (q ∷ a)) → flights (b ++ (q ∷ a)) ≤ 1
       → All (λ x. overdue_in t x.state ≡ none) (b ++ (q ∷ a)) → q.state ≡ in_flight f → due f t ≡ false
       → QuietTime (b ++ (q ∷ a)) (map (◌- t) (earliest (b ++ (q ∷ a))))
   unfolding flights
-  when-busy b a q f sound one current flying calm =
+  when_busy b a q f sound one current flying calm =
       let all = b ++ (q ∷ a) in
       let count = flights_append b (q ∷ a) in
       let here : flies_once q.state ≡ 1 = rw flying in
@@ -154,8 +154,8 @@ quiet_time limit l c d time fine (accepts go_on accepted keeps change) answered 
     go (leaves b a q x among named shows same) = absurd (noisy shows.rests)
     go (turns b a q s frame among turn first shows same) = absurd (noisy shows.rests)
     go (rests_free current free idle shows same) =
-        subst (QuietTime l.live) (named shows.rests) (when-free l.reserved (reading_of c) l.live sound current free idle)
+        subst (QuietTime l.live) (named shows.rests) (when_free l.reserved (reading_of c) l.live sound current free idle)
     go (rests_busy current b a q f among flying calm shows same) =
         subst (QuietTime l.live) (named shows.rests)
-        (rw among (when-busy l.reserved (reading_of c) b a q f (rw among at sound) (rw among at fine.fit.one)
+        (rw among (when_busy l.reserved (reading_of c) b a q f (rw among at sound) (rw among at fine.fit.one)
         (rw among at current) flying calm))

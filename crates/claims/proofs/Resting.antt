@@ -75,35 +75,35 @@ module _ (l : Ledger) (t : ℕ) where
   abbrev Lightens : Act → Type 0
   Lightens (does p bytes next live) = (if (is_busy p) 1 0) + load t live ≤ load t l.live
 
-  by-ending : (cause : Cause) (b a : List Request) (it : Request) → l.live ≡ b ++ (it ∷ a) → stirs t it.state ≡ 1
+  by_ending : (cause : Cause) (b a : List Request) (it : Request) → l.live ≡ b ++ (it ∷ a) → stirs t it.state ≡ 1
       → Lightens (ends l t cause b it a)
   unfolding load
-  by-ending cause b a it among one =
+  by_ending cause b a it among one =
       let before = load_append t b (it ∷ a) in
       let after = load_append t b a in
       rw among (omega arith)
 
-  by-sending : (f : Frame) (next : ℕ) (b a : List Request) (it : Request) → l.live ≡ b ++ (it ∷ a) → stirs t it.state ≡ 1
+  by_sending : (f : Frame) (next : ℕ) (b a : List Request) (it : Request) → l.live ≡ b ++ (it ∷ a) → stirs t it.state ≡ 1
       → due f t ≡ false → Lightens (sends l t f next b it a)
   unfolding load
-  by-sending f next b a it among one calm =
+  by_sending f next b a it among one calm =
       let before = load_append t b (it ∷ a) in
       let after = load_append t b (with_state (in_flight f) it ∷ a) in
       let still : stirs t (in_flight f) ≡ 0 = rw calm in
       rw among (omega arith)
 
-  by-case : (a : Act) → Acted l t a → Lightens a
-  by-case a (no_response_law b x q among late) = by-ending no_response b x q among (overdue_stirs t q.state late)
-  by-case a (goes_again b x q f among flying late may) =
-      by-sending (sent_again f t) l.next_seq b x q among (rw (flying, late)) (again_not_due f t)
-  by-case a (gives_up b x q f among flying late) = by-ending no_acknowledgement b x q among (rw (flying, late))
-  by-case a (goes_first b x q among new free idle) =
-      by-sending (first_sent l.next_seq t) (seq_after l.next_seq) b x q among (rw new) (first_not_due l.next_seq t)
-  by-case a (quiet_free current free idle) = omega arith
-  by-case a (quiet_busy current b x q f among flying calm) = omega arith
+  by_case : (a : Act) → Acted l t a → Lightens a
+  by_case a (no_response_law b x q among late) = by_ending no_response b x q among (overdue_stirs t q.state late)
+  by_case a (goes_again b x q f among flying late may) =
+      by_sending (sent_again f t) l.next_seq b x q among (rw (flying, late)) (again_not_due f t)
+  by_case a (gives_up b x q f among flying late) = by_ending no_acknowledgement b x q among (rw (flying, late))
+  by_case a (goes_first b x q among new free idle) =
+      by_sending (first_sent l.next_seq t) (seq_after l.next_seq) b x q among (rw new) (first_not_due l.next_seq t)
+  by_case a (quiet_free current free idle) = omega arith
+  by_case a (quiet_busy current b x q f among flying calm) = omega arith
 
   lightens : Lightens (polling.act l t)
-  lightens = by-case (polling.act l t) (acted l t)
+  lightens = by_case (polling.act l t) (acted l t)
 
 -- polls at one reading, each with room for a frame, from a ledger that is fine: none is refused, and each leaves it fine
 module _ (limit t : ℕ) where
@@ -200,12 +200,12 @@ abbrev Restful : (limit t : ℕ) → Run → Type 0
 Restful limit t s = restless t s.past + load t s.ledger.live ≤ limit
 
 module _ (limit t : ℕ) where
-  restful-after : (l : Ledger) (c : Call) (h : List Entry) → Fine limit (step limit l c).next → View limit l c (step limit l c)
+  restful_after : (l : Ledger) (c : Call) (h : List Entry) → Fine limit (step limit l c).next → View limit l c (step limit l c)
       → restless t h + load t l.live ≤ limit
       → restless t (entry_of c (step limit l c) ∷ h) + load t (step limit l c).next.live ≤ limit
   unfolding accepted_in busy_in_a_row
-  restful-after l c h fine (refuses n number buffers same) before = rw (number, same) before
-  restful-after l c h fine (accepts go_on accepted keeps change) before =
+  restful_after l c h fine (refuses n number buffers same) before = rw (number, same) before
+  restful_after l c h fine (accepts go_on accepted keeps change) before =
       let some_left = load_few t (step limit l c).next.live in
       let few = fine.fit.few in
       rw accepted
@@ -218,13 +218,13 @@ module _ (limit t : ℕ) where
       omega arith)
       (λ other. omega arith))
 
-  restful-run : Enough limit → (s : Run) (cs : List Call) → Good limit s → Restful limit t s → Restful limit t (run limit s cs)
+  restful_run : Enough limit → (s : Run) (cs : List Call) → Good limit s → Restful limit t s → Restful limit t (run limit s cs)
   unfolding run
-  restful-run enough s [] good before = before
-  restful-run enough s (c ∷ cs) good before =
+  restful_run enough s [] good before = before
+  restful_run enough s (c ∷ cs) good before =
       let next = good_step limit enough s c good in
-      restful-run enough (then limit s c) cs next
-      (restful-after s.ledger c s.past next.fine (view limit s.ledger c) before)
+      restful_run enough (then limit s c) cs next
+      (restful_after s.ledger c s.past next.fine (view limit s.ledger c) before)
 
 -- nothing is live at the start
 start_restful : (limit given t : ℕ) → Restful limit t (start given)
@@ -237,4 +237,4 @@ start_restful limit given t =
 pub always_rests : (limit : ℕ) → Enough limit → (given : ℕ) (cs : List Call) (t : ℕ)
     → restless t (run limit (start given) cs).past ≤ limit
 always_rests limit enough given cs t =
-    let all = restful-run limit t enough (start given) cs (start_good limit given) (start_restful limit given t) in omega arith
+    let all = restful_run limit t enough (start given) cs (start_good limit given) (start_restful limit given t) in omega arith

@@ -52,15 +52,15 @@ stays_among gone y other (x ∷ live) (there among) =
 
 module _ (e : Entry) (h : List Entry) where
   -- a request keeps its owner, where nothing of it is shown
-  own-kept : (x : Asked) (q : Request) → last_asked q.id (e ∷ h) ≡ last_asked q.id h
+  own_kept : (x : Asked) (q : Request) → last_asked q.id (e ∷ h) ≡ last_asked q.id h
       → endings x.place (e ∷ h) ≡ endings x.place h
       → frames x.place (e ∷ h) ≡ frames x.place h → Own h x q → Own (e ∷ h) x q
-  own-kept x q same-last same_ends same_sent own =
-      record { last = same-last ∙ own.last; open_still = same_ends ∙ own.open_still; sent = rw same_sent own.sent }
+  own_kept x q same_last same_ends same_sent own =
+      record { last = same_last ∙ own.last; open_still = same_ends ∙ own.open_still; sent = rw same_sent own.sent }
 
-  fate-kept : live_after (e ∷ h) ≡ live_after h → ending_in e.answer ≡ none → (a : Asked) → Fate h a → Fate (e ∷ h) a
-  fate-kept same ended a (still_live among not_yet) = still_live (rw same among) (ends_none e h a.place ended ∙ not_yet)
-  fate-kept same ended a (has_ended once) = has_ended (ends_none e h a.place ended ∙ once)
+  fate_kept : live_after (e ∷ h) ≡ live_after h → ending_in e.answer ≡ none → (a : Asked) → Fate h a → Fate (e ∷ h) a
+  fate_kept same ended a (still_live among not_yet) = still_live (rw same among) (ends_none e h a.place ended ∙ not_yet)
+  fate_kept same ended a (has_ended once) = has_ended (ends_none e h a.place ended ∙ once)
 
   pub told_calm : (live : List Request) → id_in e.answer ≡ none → ending_in e.answer ≡ none → frame_in e ≡ none → Told h live
       → Told (e ∷ h) live
@@ -68,12 +68,12 @@ module _ (e : Entry) (h : List Entry) where
       let same = live_stays e h asked ended in
       record {
         owners = rw same (owners_kept h (e ∷ h) (λ q. Unit) (λ x q any own.
-            own-kept x q (asks_none e h q.id asked) (ends_none e h x.place ended) (sends_none e h x.place sent) own)
+            own_kept x q (asks_none e h q.id asked) (ends_none e h x.place ended) (sends_none e h x.place sent) own)
             (live_after h) live (anything live) told.owners);
         once = λ k. rw (ends_none e h k ended) (told.once k);
         few = λ k. rw (sends_none e h k sent) (told.few k);
         belongs = (nothing_belongs ended sent, told.belongs);
-        fates = rw (requests_stay e h asked) (all_map (Fate h) (Fate (e ∷ h)) (fate-kept same ended) (requests h) told.fates);
+        fates = rw (requests_stay e h asked) (all_map (Fate h) (Fate (e ∷ h)) (fate_kept same ended) (requests h) told.fates);
       }
     where
       anything : (qs : List Request) → All (λ q. Unit) qs
@@ -92,7 +92,7 @@ module _ (e : Entry) (h : List Entry) where
       record {
         owners = rw more (owners_join (e ∷ h) (live_after h) live its q
             (owners_kept h (e ∷ h) (Apart q) (λ x y apart own.
-            own-kept x y (asks_other e h y.id asked (λ same. apart (sym same))) (ends_none e h x.place ended)
+            own_kept x y (asks_other e h y.id asked (λ same. apart (sym same))) (ends_none e h x.place ended)
             (sends_none e h x.place sent) own)
             (live_after h) live (not_live q.id live free) told.owners)
             (record { last = asks_it e h asked; open_still = not_yet; sent = unsent }));
@@ -123,12 +123,12 @@ module _ (e : Entry) (h : List Entry) where
       let apart = distinct_apart b a q distinct in
       record {
         owners = rw less (owners_leave h (e ∷ h) q (λ y r away kept.
-            own-kept y r (asks_none e h r.id asked)
+            own_kept y r (asks_none e h r.id asked)
             (ends_one e h y.place ended last ∙ rw (ne_eqb gone.place y.place
             (λ same. away (sym (one_name q.id r.id h own.last kept.last same)))) (omega arith))
             (sends_none e h y.place sent) kept)
             gone own.last (live_after h) b a apart.0 apart.1 told.owners);
-        once = ended-once gone own.open_still last;
+        once = ended_once gone own.open_still last;
         few = λ k. rw (sends_none e h k sent) (told.few k);
         belongs = (
           record {
@@ -142,8 +142,8 @@ module _ (e : Entry) (h : List Entry) where
             (all_map (Fate h) (Fate (e ∷ h)) (fate gone own.open_still last less) (requests h) told.fates);
       }
     where
-      ended-once : (gone : Asked) → endings gone.place h ≡ 0 → last_asked x.id h ≡ some gone → (k : ℕ) → endings k (e ∷ h) ≤ 1
-      ended-once gone not_yet last k =
+      ended_once : (gone : Asked) → endings gone.place h ≡ 0 → last_asked x.id h ≡ some gone → (k : ℕ) → endings k (e ∷ h) ≤ 1
+      ended_once gone not_yet last k =
           let before = told.once k in
           rw (ends_one e h k ended last)
           (by_test (λ t. (if t 1 0) + endings k h ≤ 1) (eqb gone.place k)
@@ -161,35 +161,35 @@ module _ (e : Entry) (h : List Entry) where
           (λ t k count. still_live (rw less (stays_among gone y k (live_after h) among)) (omega arith))
           refl (ends_one e h y.place ended last)
       fate gone not_yet last less y (has_ended once) =
-          let most = ended-once gone not_yet last y.place in
+          let most = ended_once gone not_yet last y.place in
           let count = ends_one e h y.place ended last in
           has_ended (omega arith)
 
   -- a request goes into another state, perhaps with a frame sent
   module _ (l : Ledger) (t : ℕ) (q : Request) where
     -- a turn's frame names the request
-    turn-names : {from to : State} {bytes : List ℕ} {frame : Option (List ℕ)} → Turn l t q from to frame → frame ≡ some bytes
+    turn_names : {from to : State} {bytes : List ℕ} {frame : Option (List ℕ)} → Turn l t q from to frame → frame ≡ some bytes
         → named_by bytes ≡ q.id
-    turn-names (acknowledges wanted) shown = let z : ◌≡◌ {A = ℕ} 0 1 = cc in absurd (omega arith)
-    turn-names marks shown = let z : ◌≡◌ {A = ℕ} 0 1 = cc in absurd (omega arith)
-    turn-names {bytes = bytes} starts shown =
+    turn_names (acknowledges wanted) shown = let z : ◌≡◌ {A = ℕ} 0 1 = cc in absurd (omega arith)
+    turn_names marks shown = let z : ◌≡◌ {A = ℕ} 0 1 = cc in absurd (omega arith)
+    turn_names {bytes = bytes} starts shown =
         let same : frame_bytes q l.next_seq ≡ bytes = cc in rw (sym same) (frame_names q l.next_seq)
-    turn-names {bytes = bytes} (sends_again {f} late may) shown =
+    turn_names {bytes = bytes} (sends_again {f} late may) shown =
         let same : frame_bytes q f.seq ≡ bytes = cc in rw (sym same) (frame_names q f.seq)
 
     -- the frames after it, at its place and at others
-    frames-here : {from to : State} {x : Asked} (frame : Option (List ℕ)) → Turn l t q from to frame → frame_in e ≡ frame
+    frames_here : {from to : State} {x : Asked} (frame : Option (List ℕ)) → Turn l t q from to frame → frame_in e ≡ frame
         → last_asked q.id h ≡ some x → (k : ℕ) → x.place ≡ k → frames k (e ∷ h) ≡ sent_more frame (frames k h)
-    frames-here none turn sent last k at = sends_none e h k sent
-    frames-here {x = x} (some bytes) turn sent last k at =
-        let named : last_asked (named_by bytes) h ≡ some x = rw (turn-names turn refl) last in
+    frames_here none turn sent last k at = sends_none e h k sent
+    frames_here {x = x} (some bytes) turn sent last k at =
+        let named : last_asked (named_by bytes) h ≡ some x = rw (turn_names turn refl) last in
         sends_one e h k sent named ∙ rw (eq-eqb x.place k at)
 
-    frames-there : {from to : State} {x : Asked} (frame : Option (List ℕ)) → Turn l t q from to frame → frame_in e ≡ frame
+    frames_there : {from to : State} {x : Asked} (frame : Option (List ℕ)) → Turn l t q from to frame → frame_in e ≡ frame
         → last_asked q.id h ≡ some x → (k : ℕ) → (x.place ≡ k → ⊥) → frames k (e ∷ h) ≡ frames k h
-    frames-there none turn sent last k away = sends_none e h k sent
-    frames-there {x = x} (some bytes) turn sent last k away =
-        let named : last_asked (named_by bytes) h ≡ some x = rw (turn-names turn refl) last in
+    frames_there none turn sent last k away = sends_none e h k sent
+    frames_there {x = x} (some bytes) turn sent last k away =
+        let named : last_asked (named_by bytes) h ≡ some x = rw (turn_names turn refl) last in
         sends_one e h k sent named ∙ rw (ne_eqb x.place k away)
 
     pub told_turn : (b a : List Request) (s : State) (frame : Option (List ℕ)) → Distinct (b ++ (q ∷ a))
@@ -204,38 +204,38 @@ module _ (e : Entry) (h : List Entry) where
         let apart = distinct_apart b a q distinct in
         record {
           owners = rw same (owners_turn h (e ∷ h) q
-              (λ y r away kept. own-kept y r (asks_none e h r.id asked) (ends_none e h y.place ended)
-              (frames-there frame turn sent own.last y.place
+              (λ y r away kept. own_kept y r (asks_none e h r.id asked) (ends_none e h y.place ended)
+              (frames_there frame turn sent own.last y.place
               (λ k. away (sym (one_name q.id r.id h own.last kept.last k)))) kept)
               s (λ y kept. record {
                 last = asks_none e h q.id asked ∙ kept.last;
                 open_still = ends_none e h y.place ended ∙ kept.open_still;
-                sent = rw (frames-here frame turn sent kept.last y.place refl)
+                sent = rw (frames_here frame turn sent kept.last y.place refl)
                     (sent_same q s s (sent_more frame (frames y.place h))
                     (sent_turn l t q (frames y.place h) turn was kept.sent));
               })
               (live_after h) b a apart.0 apart.1 told.owners);
           once = λ k. rw (ends_none e h k ended) (told.once k);
-          few = few-still x own;
+          few = few_still x own;
           belongs = (
             record {
               ending = λ y named. (let z : ◌≡◌ {A = ℕ} 0 1 = cc in absurd (omega arith));
               frame = λ bytes named.
-                  record { request = x; last = rw (turn-names turn (sym sent ∙ named)) own.last; live = its.2 };
+                  record { request = x; last = rw (turn_names turn (sym sent ∙ named)) own.last; live = its.2 };
             },
             told.belongs,
           );
-          fates = rw (requests_stay e h asked) (all_map (Fate h) (Fate (e ∷ h)) (fate-kept same ended) (requests h) told.fates);
+          fates = rw (requests_stay e h asked) (all_map (Fate h) (Fate (e ∷ h)) (fate_kept same ended) (requests h) told.fates);
         }
       where
-        few-still : (x : Asked) → Own h x q → (k : ℕ) → Few (frames k (e ∷ h))
-        few-still x own k =
+        few_still : (x : Asked) → Own h x q → (k : ℕ) → Few (frames k (e ∷ h))
+        few_still x own k =
             by_test (λ at. eqb x.place k ≡ at → Few (frames k (e ∷ h))) (eqb x.place k)
             (λ at k-at.
             let place = eqb-true x.place k k-at in
             let sent-now : Sent q s (sent_more frame (frames k h)) =
             sent_turn l t q (frames k h) turn was (rw (sym place) own.sent) in
-            rw (frames-here frame turn sent own.last k place)
+            rw (frames_here frame turn sent own.last k place)
             (few_sent t q.wanted q s (sent_more frame (frames k h)) now sent-now))
-            (λ at k-at. rw (frames-there frame turn sent own.last k (eqb-false x.place k k-at)) (told.few k))
+            (λ at k-at. rw (frames_there frame turn sent own.last k (eqb-false x.place k k-at)) (told.few k))
             refl

@@ -27,7 +27,7 @@ use Rattle.ledger.specs.Answers as answer
 use Rattle.ledger.specs.Answers.{Ending, Command, Poll, sent, ended, quiet, Answer, refused, opened, submitted, received, polled, Done}
 use Rattle.ledger.specs.Submitting.{id_after, issued}
 use Rattle.ledger.specs.Receiving as receiving
-use Rattle.ledger.specs.Receiving.{Act, only, flies, provided, acknowledged_in, onAck, onNak, matches, onResponse, command_in, onData, onSequenced, onMessage, act, replying, remembering, nak_message, ack_message, received_as}
+use Rattle.ledger.specs.Receiving.{Act, only, flies, provided, acknowledged_in, on_ack, on_nak, matches, on_response, command_in, on_data, on_sequenced, on_message, act, replying, remembering, nak_message, ack_message, received_as}
 use Rattle.ledger.specs.Polling as polling
 use Rattle.ledger.specs.Polling.{frame_bytes, polled_as, overdue_in, queued_in, earliest}
 use Rattle.ledger.specs.Calls.{Call, submit, receive, poll, reading_of, lent_by}
@@ -128,16 +128,16 @@ module _ (limit : ℕ) (l : Ledger) (r : line.Received) (reply buffer : List ℕ
   calmly : (a : Act) → a.ending ≡ none → a.live ≡ l.live → Does a
   calmly a end live = stays (record { asks = refl; ends = end; sends = refl; rests = refl }) live
 
-  with-reply : (bytes : List ℕ) (a : Act) → Does a → Does (replying bytes a)
-  with-reply bytes a change = alike refl refl refl refl refl change
+  with_reply : (bytes : List ℕ) (a : Act) → Does a → Does (replying bytes a)
+  with_reply bytes a change = alike refl refl refl refl refl change
 
-  with-seen : (seen : Seen) (a : Act) → Does a → Does (remembering seen a)
-  with-seen seen a change = alike refl refl refl refl refl change
+  with_seen : (seen : Seen) (a : Act) → Does a → Does (remembering seen a)
+  with_seen seen a change = alike refl refl refl refl refl change
 
   -- what a message does, by its kind
-  to-ack : (seq : ℕ) (s : Search Frame) → Looked (λ q. acknowledged_in seq q.state) l.live s → Does (onAck l t s)
-  to-ack seq nobody (none_shows h) = calmly (only l t answer.stray) refl refl
-  to-ack seq (somebody b it f a) (one_shows among shown h) =
+  to_ack : (seq : ℕ) (s : Search Frame) → Looked (λ q. acknowledged_in seq q.state) l.live s → Does (on_ack l t s)
+  to_ack seq nobody (none_shows h) = calmly (only l t answer.stray) refl refl
+  to_ack seq (somebody b it f a) (one_shows among shown h) =
       let flying = acknowledged_state seq it.state shown in
       by_test (λ w. Does (if w (receiving.moves l t (waiting t) b it a)
       (receiving.ends l t answer.no_word answer.acknowledged [] b it a))) it.wanted
@@ -146,24 +146,24 @@ module _ (limit : ℕ) (l : Ledger) (r : line.Received) (reply buffer : List ℕ
       (record { asks = refl; ends = refl; sends = refl; rests = refl }) refl)
       (λ w. leaves b a it _ among refl (record { asks = refl; ends = refl; sends = refl; rests = refl }) refl)
 
-  to-nak : (s : Search Frame) → Looked flies l.live s → Does (onNak l t s)
-  to-nak nobody (none_shows h) = calmly (only l t answer.stray) refl refl
-  to-nak (somebody b it f a) (one_shows among shown h) =
+  to_nak : (s : Search Frame) → Looked flies l.live s → Does (on_nak l t s)
+  to_nak nobody (none_shows h) = calmly (only l t answer.stray) refl refl
+  to_nak (somebody b it f a) (one_shows among shown h) =
       let flying = flies_state it.state shown in
       turns b a it (in_flight (with_mark f)) none among (rw flying marks) (λ e. let z : ◌≡◌ {A = ℕ} 0 1 = cc in absurd (omega arith))
       (record { asks = refl; ends = refl; sends = refl; rests = refl }) refl
 
-  to-response : (c : Command) (bytes : List ℕ) (s : Search (Unit {0})) → Looked (λ q. provided (matches c q) tt) l.live s
-      → Does (onResponse l t c bytes s)
-  to-response c bytes nobody (none_shows h) = calmly (only l t (answer.unmatched c)) refl refl
-  to-response c bytes (somebody b it f a) (one_shows among shown h) =
+  to_response : (c : Command) (bytes : List ℕ) (s : Search (Unit {0})) → Looked (λ q. provided (matches c q) tt) l.live s
+      → Does (on_response l t c bytes s)
+  to_response c bytes nobody (none_shows h) = calmly (only l t (answer.unmatched c)) refl refl
+  to_response c bytes (somebody b it f a) (one_shows among shown h) =
       leaves b a it _ among refl (record { asks = refl; ends = refl; sends = refl; rests = refl }) refl
 
-  to-data : (payload : List ℕ) → Does (onData l t payload)
-  unfolding onData
-  to-data payload =
+  to_data : (payload : List ℕ) → Does (on_data l t payload)
+  unfolding on_data
+  to_data payload =
       let c = command_in payload in
-      let response = onResponse l t c (data_in payload) (oldest (λ q. provided (matches c q) tt) l.live) in
+      let response = on_response l t c (data_in payload) (oldest (λ q. provided (matches c q) tt) l.live) in
       let told : Act = record {
         word = answer.event c;
         reply = [];
@@ -178,40 +178,40 @@ module _ (limit : ℕ) (l : Ledger) (r : line.Received) (reply buffer : List ℕ
       (λ e. calmly (only l t answer.not_command) refl refl)
       (λ e. by_test (λ b. Does (if b told response)) (leb 1 c.rqid && leb c.rqid l.reserved)
       (λ e. calmly told refl refl)
-      (λ e. to-response c (data_in payload) (oldest (λ q. provided (matches c q) tt) l.live)
+      (λ e. to_response c (data_in payload) (oldest (λ q. provided (matches c q) tt) l.live)
       (look (λ q. provided (matches c q) tt) l.live)))
 
-  to-sequenced : (seq : ℕ) (payload : List ℕ) → Does (onSequenced l t seq payload)
-  to-sequenced seq payload =
-      let fresh-one = remembering (seen_after l.seen seq) (onData l t payload) in
-      with-reply (ack_message seq) (if (is_repeat l.seen seq) (only l t answer.repeat) fresh-one)
+  to_sequenced : (seq : ℕ) (payload : List ℕ) → Does (on_sequenced l t seq payload)
+  to_sequenced seq payload =
+      let fresh-one = remembering (seen_after l.seen seq) (on_data l t payload) in
+      with_reply (ack_message seq) (if (is_repeat l.seen seq) (only l t answer.repeat) fresh-one)
       (by_test (λ b. Does (if b (only l t answer.repeat) fresh-one)) (is_repeat l.seen seq)
       (λ e. calmly (only l t answer.repeat) refl refl)
-      (λ e. with-seen (seen_after l.seen seq) (onData l t payload) (to-data payload)))
+      (λ e. with_seen (seen_after l.seen seq) (on_data l t payload) (to_data payload)))
 
-  to-message : (type seq : ℕ) (payload : List ℕ) → Does (onMessage l t type seq payload)
-  unfolding onMessage
-  to-message type seq payload =
-      let acked = onAck l t (oldest (λ q. acknowledged_in seq q.state) l.live) in
-      let naked = onNak l t (oldest flies l.live) in
+  to_message : (type seq : ℕ) (payload : List ℕ) → Does (on_message l t type seq payload)
+  unfolding on_message
+  to_message type seq payload =
+      let acked = on_ack l t (oldest (λ q. acknowledged_in seq q.state) l.live) in
+      let naked = on_nak l t (oldest flies l.live) in
       by_test (λ b. Does (if b acked (if (eqb type nak) naked
-      (if (eqb type data_seq) (onSequenced l t seq payload) (onData l t payload)))))
+      (if (eqb type data_seq) (on_sequenced l t seq payload) (on_data l t payload)))))
       (eqb type ack)
-      (λ e. to-ack seq (oldest (λ q. acknowledged_in seq q.state) l.live)
+      (λ e. to_ack seq (oldest (λ q. acknowledged_in seq q.state) l.live)
       (look (λ q. acknowledged_in seq q.state) l.live))
-      (λ e. by_test (λ b. Does (if b naked (if (eqb type data_seq) (onSequenced l t seq payload) (onData l t payload))))
+      (λ e. by_test (λ b. Does (if b naked (if (eqb type data_seq) (on_sequenced l t seq payload) (on_data l t payload))))
       (eqb type nak)
-      (λ e. to-nak (oldest flies l.live) (look flies l.live))
-      (λ e. by_test (λ b. Does (if b (onSequenced l t seq payload) (onData l t payload))) (eqb type data_seq)
-      (λ e. to-sequenced seq payload)
-      (λ e. to-data payload)))
+      (λ e. to_nak (oldest flies l.live) (look flies l.live))
+      (λ e. by_test (λ b. Does (if b (on_sequenced l t seq payload) (on_data l t payload))) (eqb type data_seq)
+      (λ e. to_sequenced seq payload)
+      (λ e. to_data payload)))
 
   to_item : (i : line.Answer) (payload : List ℕ) → Does (act l t i payload)
   to_item more payload = calmly (only l t answer.no_word) refl refl
   to_item (item damaged_header) payload = calmly (replying nak_message (only l t answer.no_word)) refl refl
   to_item (item forbidden) payload = calmly (only l t answer.no_word) refl refl
   to_item (item damaged_payload) payload = calmly (replying nak_message (only l t answer.no_word)) refl refl
-  to_item (item (items.message type seq len)) payload = to-message type seq payload
+  to_item (item (items.message type seq len)) payload = to_message type seq payload
 
 -- a frame stands at the front of the output
 put_in_front : (bytes output : List ℕ) → take (length bytes) (placed 0 bytes output) ≡ bytes
@@ -221,11 +221,11 @@ put_in_front bytes (x ∷ xs) = take_front bytes (drop (0 + length bytes) (x ∷
 
 module _ (limit : ℕ) (l : Ledger) (output : List ℕ) (t : ℕ) where
   -- a poll, by what it does
-  to-sending : (b a : List Request) (it : Request) (f : Frame) (next : ℕ) → l.live ≡ b ++ (it ∷ a)
+  to_sending : (b a : List Request) (it : Request) (f : Frame) (next : ℕ) → l.live ≡ b ++ (it ∷ a)
       → Turn l t it it.state (in_flight f) (some (frame_bytes it f.seq))
       → (it.state ≡ queued → All (λ x. flies x ≡ none) l.live × All (λ x. queued_in x.state ≡ none) b)
       → Change limit l t (polled_as l (polling.sends l t f next b it a) output t)
-  to-sending b a it f next among turn first =
+  to_sending b a it f next among turn first =
       turns b a it (in_flight f) (some (frame_bytes it f.seq)) among turn first
       (record {
         asks = refl;
@@ -236,21 +236,21 @@ module _ (limit : ℕ) (l : Ledger) (output : List ℕ) (t : ℕ) where
       })
       refl
 
-  to-ending : (cause : answer.Cause) (b a : List Request) (it : Request) → l.live ≡ b ++ (it ∷ a)
+  to_ending : (cause : answer.Cause) (b a : List Request) (it : Request) → l.live ≡ b ++ (it ∷ a)
       → Change limit l t (polled_as l (polling.ends l t cause b it a) output t)
-  to-ending cause b a it among = leaves b a it _ among refl (record { asks = refl; ends = refl; sends = refl; rests = refl }) refl
+  to_ending cause b a it among = leaves b a it _ among refl (record { asks = refl; ends = refl; sends = refl; rests = refl }) refl
 
-  to-poll : (a : polling.Act) → Acted l t a → Change limit l t (polled_as l a output t)
-  to-poll a (no_response_law b x q among late) = to-ending answer.no_response b x q among
-  to-poll a (goes_again b x q f among flying late may) =
-      to-sending b x q (sent_again f t) l.next_seq among (rw flying (sends_again late may))
+  to_poll : (a : polling.Act) → Acted l t a → Change limit l t (polled_as l a output t)
+  to_poll a (no_response_law b x q among late) = to_ending answer.no_response b x q among
+  to_poll a (goes_again b x q f among flying late may) =
+      to_sending b x q (sent_again f t) l.next_seq among (rw flying (sends_again late may))
       (λ e. let z : ◌≡◌ {A = ℕ} 0 1 = cc in absurd (omega arith))
-  to-poll a (gives_up b x q f among flying late) = to-ending answer.no_acknowledgement b x q among
-  to-poll a (goes_first b x q among new free idle) =
-      to-sending b x q (first_sent l.next_seq t) (seq_after l.next_seq) among (rw new starts) (λ e. (free, idle))
-  to-poll a (quiet_free current free idle) =
+  to_poll a (gives_up b x q f among flying late) = to_ending answer.no_acknowledgement b x q among
+  to_poll a (goes_first b x q among new free idle) =
+      to_sending b x q (first_sent l.next_seq t) (seq_after l.next_seq) among (rw new starts) (λ e. (free, idle))
+  to_poll a (quiet_free current free idle) =
       rests_free current free idle (record { asks = refl; ends = refl; sends = refl; rests = refl }) refl
-  to-poll a (quiet_busy current b x q f among flying calm) =
+  to_poll a (quiet_busy current b x q f among flying calm) =
       rests_busy current b x q f among flying calm (record { asks = refl; ends = refl; sends = refl; rests = refl }) refl
 
 -- a call that the table does not refuse
@@ -304,7 +304,7 @@ accepted limit l (submit fields bytes wanted t) h =
 accepted limit l (receive bytes reply buffer t) h =
     accepts (passes limit l (receive bytes reply buffer t) h).clock (to_receive limit l bytes reply buffer t).0
     (to_receive limit l bytes reply buffer t).1 (to_receive limit l bytes reply buffer t).2
-accepted limit l (poll output t) h = go (polling.act l t) (to-poll limit l output t (polling.act l t) (acted l t))
+accepted limit l (poll output t) h = go (polling.act l t) (to_poll limit l output t (polling.act l t) (acted l t))
   where
     go : (a : polling.Act) → Change limit l t (polled_as l a output t) → View limit l (poll output t) (polled_as l a output t)
     go (polling.does p bytes next live) changed =

@@ -55,14 +55,14 @@ module _ (bound t : ℕ) where
         subst (λ r. All (λ a. a.time + bound ≤ r → endings a.place (e ∷ es) ≡ 1) (requests (e ∷ es))) read
         ((bounded.0 rule).0 time answered)
 
-    one-poll : (n : ℕ) (p : Poll) → e.answer ≡ polled p → busy_in_a_row t (e ∷ accepted_in es) < suc n
+    one_poll : (n : ℕ) (p : Poll) → e.answer ≡ polled p → busy_in_a_row t (e ∷ accepted_in es) < suc n
         → (restless t es < n → All (Ended es) (requests es)) → All (Ended (e ∷ es)) (requests (e ∷ es))
     unfolding busy_in_a_row
-    one-poll n (sent k) answered few before =
+    one_poll n (sent k) answered few before =
         let fewer = rw (read, eq-eqb t t refl, answered) at few in one_more e es (rw answered) once (before (omega arith))
-    one-poll n (ended x) answered few before =
+    one_poll n (ended x) answered few before =
         let fewer = rw (read, eq-eqb t t refl, answered) at few in one_more e es (rw answered) once (before (omega arith))
-    one-poll n (quiet time) answered few before = rested time answered
+    one_poll n (quiet time) answered few before = rested time answered
 
   -- the newest accepted call is one of the polls
   newest : (e : Entry) (es : List Entry) (n : ℕ) → ClockRule (e ∷ es) → Bounded bound (e ∷ es)
@@ -72,14 +72,14 @@ module _ (bound t : ℕ) where
       → All (Ended (e ∷ es)) (requests (e ∷ es))
   newest e es zero rule bounded once before polls few follows = absurd (omega arith)
   newest e es (suc n) rule bounded once before polls few follows =
-      one-poll e es rule bounded once polls.0.read n polls.0.answer polls.0.answered few
+      one_poll e es rule bounded once polls.0.read n polls.0.answer polls.0.answered few
       (λ less. before n polls.1 less (without_newest e (accepted_in es) follows))
 
-  ends-from : (past : List Entry) (n : ℕ) → PolledAt t n past → restless t past < n → ClockRule past → Bounded bound past
+  ends_from : (past : List Entry) (n : ℕ) → PolledAt t n past → restless t past < n → ClockRule past → Bounded bound past
       → ((place : ℕ) → endings place past ≤ 1) → All (Ended past) (requests past)
   unfolding accepted_in requests
-  ends-from [] n polls few rule bounded once = tt
-  ends-from (e ∷ es) n polls few rule bounded once =
+  ends_from [] n polls few rule bounded once = tt
+  ends_from (e ∷ es) n polls few rule bounded once =
       let once-before : (place : ℕ) → endings place es ≤ 1 =
       λ place. (let more = ends_more e es place in let most = once place in omega arith) in
       by_test (λ x. NewestPolled t n (if x (e ∷ accepted_in es) (accepted_in es))
@@ -87,9 +87,9 @@ module _ (bound t : ℕ) where
       → All (Ended (e ∷ es)) (requests (e ∷ es)))
       (is_accepted e.answer)
       (λ accepted polls few follows.
-      newest e es n rule bounded once (λ m p f r. ends-from es m p f r bounded.1 once-before) polls few follows)
+      newest e es n rule bounded once (λ m p f r. ends_from es m p f r bounded.1 once-before) polls few follows)
       (λ unaccepted polls few follows. one_more e es (refused_asks_none e.answer unaccepted) once
-      (ends-from es n polls few follows bounded.1 once-before))
+      (ends_from es n polls few follows bounded.1 once-before))
       polls few rule
 
 pub polled_ends : (limit bound : ℕ) (past : List Entry) → ClockRule past → Bounded bound past
@@ -97,4 +97,4 @@ pub polled_ends : (limit bound : ℕ) (past : List Entry) → ClockRule past →
     → (t : ℕ) → PolledAt t (polls_to_rest limit) past
     → All (λ a. a.time + bound ≤ t → endings a.place past ≡ 1) (requests past)
 polled_ends limit bound past rule bounded rests once t polls =
-    let few = rests t in ends-from bound t past (polls_to_rest limit) polls (omega arith) rule bounded once
+    let few = rests t in ends_from bound t past (polls_to_rest limit) polls (omega arith) rule bounded once

@@ -18,7 +18,7 @@ use Rattle.ledger.specs.Parts.{live_max, oldest}
 use Rattle.ledger.specs.Answers.{quiet, polled}
 use Rattle.ledger.specs.Submitting.{id_after, is_live, first_free}
 use Rattle.ledger.specs.Receiving as receiving
-use Rattle.ledger.specs.Receiving.{ack_message, onMessage, onData, matches}
+use Rattle.ledger.specs.Receiving.{ack_message, on_message, on_data, matches}
 use Rattle.ledger.specs.Polling as polling
 use Rattle.ledger.specs.Polling.{earliest}
 use Rattle.ledger.specs.Calls.{Call, submit, receive, poll, reading_of}
@@ -113,7 +113,7 @@ unanswered =
 
 -- what a list with receives is computed with
 heard : Unit {0}
-unfolding computed receiving.receive onMessage onData matches line.receive line.taken line.smallest scan dropped stands rules payload_of allowed
+unfolding computed receiving.receive on_message on_data matches line.receive line.taken line.smallest scan dropped stands rules payload_of allowed
 heard = tt
 
 pub record Unanswered (past : List Entry) : Type 0 where

@@ -75,6 +75,6 @@ pub record HeardAll (past : List Entry) (kept : List ℕ) : Type 0 where
   pub held : (handed [] (bytes_taken past)).held ≡ kept
 
 -- two lists have the same items and hold the same bytes
-pub record HeardAlike (past other : List Entry) (kept otherKept : List ℕ) : Type 0 where
+pub record HeardAlike (past other : List Entry) (kept other_kept : List ℕ) : Type 0 where
   pub items : items_answered past ≡ items_answered other
-  pub held : kept ≡ otherKept
+  pub held : kept ≡ other_kept

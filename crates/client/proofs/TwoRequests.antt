@@ -69,22 +69,22 @@ module _ (k : Case) {acknowledgement : List ℕ} (h : Handed k acknowledgement) 
   at_once : (before later : Entry) → reading_of before.call ≡ reading_of later.call → MayFollow before later
   at_once before later same late = absurd (omega arith)
 
-  after-rest : (before later : Entry) → before.answer ≡ polled (quiet (some 1000)) → reading_of later.call ≤ reading_of before.call + 1000
+  after_rest : (before later : Entry) → before.answer ≡ polled (quiet (some 1000)) → reading_of later.call ≤ reading_of before.call + 1000
       → MayFollow before later
-  after-rest before later rested soon late = record {
+  after_rest before later rested soon late = record {
     time = some 1000;
     rested = rested;
     within = λ ms same. (let it : 1000 ≡ ms = cc in omega arith);
   }
 
-  keeps-clock-rule : ClockRule (past_of (calls_in (rows k)) (outcomes_in (rows k)))
+  keeps_clock_rule : ClockRule (past_of (calls_in (rows k)) (outcomes_in (rows k)))
   unfolding past_from accepted_in
-  keeps-clock-rule =
+  keeps_clock_rule =
       let soon = h.soon in
       let again = h.due in
       let last = h.due_last in
       let over = h.due_over in
-      (after-rest _ _ refl (omega arith), (at_once _ _ refl, (after-rest _ _ refl (omega arith), (at_once _ _ refl, (after-rest _ _ refl (omega arith), (at_once _ _ refl, (at_once _ _ refl, (at_once _ _ refl, (at_once _ _ refl, (at_once _ _ refl, (after-rest _ _ refl (omega arith), (at_once _ _ refl, (at_once _ _ refl, tt)))))))))))))
+      (after_rest _ _ refl (omega arith), (at_once _ _ refl, (after_rest _ _ refl (omega arith), (at_once _ _ refl, (after_rest _ _ refl (omega arith), (at_once _ _ refl, (at_once _ _ refl, (at_once _ _ refl, (at_once _ _ refl, (at_once _ _ refl, (after_rest _ _ refl (omega arith), (at_once _ _ refl, (at_once _ _ refl, tt)))))))))))))
 
 -- the parts, each with its result and what it does
 module _ (reserved : ℕ) (store : List ℕ) (f : Fields) (bytes acknowledgement first second : List ℕ) (at : Readings)
@@ -136,6 +136,6 @@ module _ (reserved : ℕ) (store : List ℕ) (f : Fields) (bytes acknowledgement
         replies = k2.replies;
         buffers = k2.fills;
         framed = k4.stays;
-        kept = keeps-clock-rule _ h;
+        kept = keeps_clock_rule _ h;
         meets = k4.meets;
       }

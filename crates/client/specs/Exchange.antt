@@ -142,8 +142,8 @@ pub record Exchanged (k : Case) (r : Report) (store output reply buffer frames :
 -- the contract: for every response that may arrive
 abbrev pub Exchanges : Report → (reserved : ℕ) → Fields → (bytes ack first second : List ℕ) → Readings
     → (output reply buffer frames : List ℕ)
-    → (storeExit outputExit replyExit bufferExit framesExit : List ℕ) → Type 0
-Exchanges r reserved f bytes acknowledgement first second at output reply buffer frames storeExit outputExit replyExit bufferExit framesExit =
+    → (store_exit output_exit reply_exit buffer_exit frames_exit : List ℕ) → Type 0
+Exchanges r reserved f bytes acknowledgement first second at output reply buffer frames store_exit output_exit reply_exit buffer_exit frames_exit =
     (back : Fields) (seq : ℕ) (answer : List ℕ)
     → let k : Case = record {
       reserved = reserved;
@@ -163,4 +163,4 @@ Exchanges r reserved f bytes acknowledgement first second at output reply buffer
       reply = reply;
       buffer = buffer;
       frames = frames;
-    } in Handed k acknowledgement → Exchanged k r storeExit outputExit replyExit bufferExit framesExit
+    } in Handed k acknowledgement → Exchanged k r store_exit output_exit reply_exit buffer_exit frames_exit

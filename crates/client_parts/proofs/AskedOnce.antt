@@ -58,14 +58,14 @@ module _ (e : Endpoint) (store : List ℕ) (f : Fields) (bytes output : List ℕ
     (x2 : Extends r1.endpoint s1 (poll output t) (poll_result r2 s2 o2))
     (r3 : polling.Polled) (s3 o3 : List ℕ) (p3 : Promise r2.endpoint s2 (poll o2 t) (poll_result r3 s3 o3))
     (x3 : Extends r2.endpoint s2 (poll o2 t) (poll_result r3 s3 o3)) where
-  submit-passes : length bytes ≤ max_data → first_of (line 4 (ltb max_data (length bytes)) ∷ line 5 false ∷ []) ≡ none
+  submit_passes : length bytes ≤ max_data → first_of (line 4 (ltb max_data (length bytes)) ∷ line 5 false ∷ []) ≡ none
   unfolding first_of
-  submit-passes short = rw (le-ltb max_data (length bytes) short)
+  submit_passes short = rw (le-ltb max_data (length bytes) short)
 
   pub asks : Asks (record { id = r1.answer; sent = r2.answer; rests = r3.answer; endpoint = r3.endpoint }) e store s3 f bytes output o3 t
   asks given begun calls outcomes reserved before seq id seen chain stands on short room =
       let sent = placed 0 (frame_for f id bytes seq) output in
-      let k1 = comes chain stands (submit f bytes true t) (submit_result r1 s1) p1 on (submit-passes short)
+      let k1 = comes chain stands (submit f bytes true t) (submit_result r1 s1) p1 on (submit_passes short)
       (submit_idle reserved before seq id seen f bytes t) in
       let c1 = with_call chain (submit f bytes true t) (submit_result r1 s1) x1 k1.answers k1.leaves in
       let k2 = comes c1 k1.next (poll output t) (poll_result r2 s2 o2) p2 (omega arith) (poll_passes output room)

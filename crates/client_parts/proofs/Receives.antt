@@ -21,7 +21,7 @@ use Rattle.link.specs.Repeats.{none_seen, is_repeat, seen_after}
 use Rattle.ledger.specs.Parts.{in_flight, waiting, oldest}
 use Rattle.ledger.specs.Answers.{received}
 use Rattle.ledger.specs.Receiving as receiving
-use Rattle.ledger.specs.Receiving.{ack_message, matches, onData, onMessage}
+use Rattle.ledger.specs.Receiving.{ack_message, matches, on_data, on_message}
 use Rattle.ledger.specs.Calls.{receive}
 use Rattle.ledger.specs.Runs.{accepts}
 use Rattle.client_parts.specs.Answers.{frame_for, to_ack, to_first, to_second}
@@ -37,9 +37,9 @@ data-allowed n least most = rw (le-leb 1 n least, le-leb n max_len most)
 
 module _ (reserved before seq next id : ℕ) (f : Fields) (bytes reply buffer : List ℕ) (t : ℕ) where
   -- the ACK of the frame in flight
-  ack-read : (s : ℕ) → line.receive [] (ack_message s)
+  ack_read : (s : ℕ) → line.receive [] (ack_message s)
       ≡ record { answer = item (items.message ack s 0); payload = []; taken = 10; held = [] }
-  ack-read s = rw (length_message ack s []) at (last_piece ack s [] [] (ack_message s) ack_allowed refl)
+  ack_read s = rw (length_message ack s []) at (last_piece ack s [] [] (ack_message s) ack_allowed refl)
 
   pub receive_ack : (frame : Frame)
       → accepts (with_live reserved before seq next none_seen (asking id f bytes (in_flight frame) ∷ []) [])
@@ -49,8 +49,8 @@ module _ (reserved before seq next id : ℕ) (f : Fields) (bytes reply buffer : 
         buffers = reply ∷ buffer ∷ [];
         next = with_live reserved t seq next none_seen (asking id f bytes (waiting t) ∷ []) [];
       }
-  unfolding receiving.receive onMessage oldest placed
-  receive_ack frame = rw (ack-read frame.seq, eq-eqb frame.seq frame.seq refl)
+  unfolding receiving.receive on_message oldest placed
+  receive_ack frame = rw (ack_read frame.seq, eq-eqb frame.seq frame.seq refl)
 
   -- a response in two pieces
   module _ (back : Fields) (s : ℕ) (answer first second : List ℕ) (cut : first ++ second ≡ frame_for back id answer s)
@@ -71,14 +71,14 @@ module _ (reserved before seq next id : ℕ) (f : Fields) (bytes reply buffer : 
     receive_first left = rw (first_piece data_seq s (payload back id answer) first second fine cut left)
 
     -- the second
-    second-read : line.receive first second
+    second_read : line.receive first second
         ≡ record {
           answer = item (items.message data_seq s (head_length + length answer));
           payload = payload back id answer;
           taken = length second;
           held = [];
         }
-    second-read = rw (length_payload back id answer) at (last_piece data_seq s (payload back id answer) first second fine cut)
+    second_read = rw (length_payload back id answer) at (last_piece data_seq s (payload back id answer) first second fine cut)
 
     pub receive_second : reserved < id → answers f back ≡ true
         → accepts (with_live reserved before seq next none_seen (asking id f bytes (waiting before) ∷ []) first)
@@ -88,10 +88,10 @@ module _ (reserved before seq next id : ℕ) (f : Fields) (bytes reply buffer : 
           buffers = placed 0 (ack_message s) reply ∷ placed 0 answer buffer ∷ [];
           next = idle reserved t seq next (some s);
         }
-    unfolding receiving.receive onMessage onData matches oldest is_repeat seen_after
+    unfolding receiving.receive on_message on_data matches oldest is_repeat seen_after
     receive_second unreserved fits =
         rw (
-          second-read,
+          second_read,
           is_command_law back id answer,
           fields_read back id answer,
           rqid_read back id answer,

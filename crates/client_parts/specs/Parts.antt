@@ -61,44 +61,44 @@ pub record AskedAs (given : ℕ) (begun : opening.Opened) (calls : List Call) (o
       (told (polled (quiet (some resend_time))) (placed 0 (frame_for f id bytes seq) output ∷ [])))
       r.endpoint store
 
-abbrev pub Asks : Asked → Endpoint → (store storeExit : List ℕ) → Fields → (bytes output exit : List ℕ) (clock : ℕ) → Type 0
-Asks r e store storeExit f bytes output exit clock =
+abbrev pub Asks : Asked → Endpoint → (store store_exit : List ℕ) → Fields → (bytes output exit : List ℕ) (clock : ℕ) → Type 0
+Asks r e store store_exit f bytes output exit clock =
     (given : ℕ) (begun : opening.Opened) (calls : List Call) (outcomes : List Outcome) (reserved before seq id : ℕ) (seen : Seen)
     → Chain given begun calls outcomes e store
     → ledger_of e store ≡ idle reserved before seq id seen → before ≤ clock → length bytes ≤ max_data → total max_len ≤ length output
-    → AskedAs given begun calls outcomes r storeExit f bytes output exit clock reserved seq id seen
+    → AskedAs given begun calls outcomes r store_exit f bytes output exit clock reserved seq id seen
 
 -- a request in flight is acknowledged, and its response arrives in two pieces
 pub record HeardAs (given : ℕ) (begun : opening.Opened) (calls : List Call) (outcomes : List Outcome) (r : Heard) (store : List ℕ)
-    (acknowledgement first second reply replyExit buffer bufferExit : List ℕ) (clock reserved seq next id : ℕ) (frame : Frame) (back : Fields)
-    (backSeq : ℕ) (answered : List ℕ) : Type 0 where
+    (acknowledgement first second reply reply_exit buffer buffer_exit : List ℕ) (clock reserved seq next id : ℕ) (frame : Frame) (back : Fields)
+    (back_seq : ℕ) (answered : List ℕ) : Type 0 where
   pub acks : receive_answer_of r.acknowledged ≡ received (to_ack frame.seq)
   pub waits : receive_answer_of r.waits ≡ received (to_first first)
-  pub ends : receive_answer_of r.answered ≡ received (to_second back id backSeq answered second)
-  pub replies : replyExit ≡ placed 0 (ack_message backSeq) reply
-  pub fills : bufferExit ≡ placed 0 answered buffer
-  pub ledger : ledger_of r.endpoint store ≡ idle reserved clock seq next (some backSeq)
+  pub ends : receive_answer_of r.answered ≡ received (to_second back id back_seq answered second)
+  pub replies : reply_exit ≡ placed 0 (ack_message back_seq) reply
+  pub fills : buffer_exit ≡ placed 0 answered buffer
+  pub ledger : ledger_of r.endpoint store ≡ idle reserved clock seq next (some back_seq)
   pub list : Chain given begun
       (and (and (and calls (receive acknowledgement reply buffer clock)) (receive first reply buffer clock))
       (receive second reply buffer clock))
       (and (and (and outcomes (told (received (to_ack frame.seq)) (reply ∷ buffer ∷ [])))
       (told (received (to_first first)) (reply ∷ buffer ∷ [])))
-      (told (received (to_second back id backSeq answered second))
-      (placed 0 (ack_message backSeq) reply ∷ placed 0 answered buffer ∷ [])))
+      (told (received (to_second back id back_seq answered second))
+      (placed 0 (ack_message back_seq) reply ∷ placed 0 answered buffer ∷ [])))
       r.endpoint store
 
-abbrev pub Hears : Heard → Endpoint → (store storeExit acknowledgement first second reply replyExit buffer bufferExit : List ℕ)
+abbrev pub Hears : Heard → Endpoint → (store store_exit acknowledgement first second reply reply_exit buffer buffer_exit : List ℕ)
     → (clock : ℕ) → Type 0
-Hears r e store storeExit acknowledgement first second reply replyExit buffer bufferExit clock =
+Hears r e store store_exit acknowledgement first second reply reply_exit buffer buffer_exit clock =
     (given : ℕ) (begun : opening.Opened) (calls : List Call) (outcomes : List Outcome) (reserved before seq next id : ℕ) (f : Fields)
-    (bytes : List ℕ) (frame : Frame) (back : Fields) (backSeq : ℕ) (answered : List ℕ)
+    (bytes : List ℕ) (frame : Frame) (back : Fields) (back_seq : ℕ) (answered : List ℕ)
     → Chain given begun calls outcomes e store
     → ledger_of e store ≡ with_live reserved before seq next none_seen (asking id f bytes (in_flight frame) ∷ []) []
     → before ≤ clock → reserved < id → total 0 ≤ length reply → max_data ≤ length buffer
     → acknowledgement ≡ ack_message frame.seq
-    → first ++ second ≡ frame_for back id answered backSeq → answers f back ≡ true → length answered ≤ max_data → 0 < length second
-    → HeardAs given begun calls outcomes r storeExit acknowledgement first second reply replyExit buffer bufferExit clock reserved seq next id
-    frame back backSeq answered
+    → first ++ second ≡ frame_for back id answered back_seq → answers f back ≡ true → length answered ≤ max_data → 0 < length second
+    → HeardAs given begun calls outcomes r store_exit acknowledgement first second reply reply_exit buffer buffer_exit clock reserved seq next id
+    frame back back_seq answered
 
 -- a request whose frame has gone out once, and of which nothing is heard, is given up
 pub record GivenUpAs (given : ℕ) (begun : opening.Opened) (calls : List Call) (outcomes : List Outcome) (r : GivenUp) (store : List ℕ)
@@ -119,8 +119,8 @@ pub record GivenUpAs (given : ℕ) (begun : opening.Opened) (calls : List Call) 
       (told (polled (ended (record { id = id; cause = no_acknowledgement }))) (output ∷ [])))
       r.endpoint store
 
-abbrev pub GivesUp : GivenUp → Endpoint → (store storeExit output exit : List ℕ) → Readings → Type 0
-GivesUp r e store storeExit output exit at =
+abbrev pub GivesUp : GivenUp → Endpoint → (store store_exit output exit : List ℕ) → Readings → Type 0
+GivesUp r e store store_exit output exit at =
     (given : ℕ) (begun : opening.Opened) (calls : List Call) (outcomes : List Outcome) (reserved before seq next id sequence : ℕ) (seen : Seen)
     (f : Fields) (bytes : List ℕ)
     → Chain given begun calls outcomes e store
@@ -128,4 +128,4 @@ GivesUp r e store storeExit output exit at =
     ≡ with_live reserved before seq next seen (asking id f bytes (in_flight (first_sent sequence before)) ∷ []) []
     → at.again ≡ before + resend_time → at.last ≡ at.again + resend_time → at.over ≡ at.last + resend_time
     → total max_len ≤ length output → placed 0 (frame_for f id bytes sequence) output ≡ output
-    → GivenUpAs given begun calls outcomes r storeExit output exit at id (length (frame_for f id bytes sequence))
+    → GivenUpAs given begun calls outcomes r store_exit output exit at id (length (frame_for f id bytes sequence))

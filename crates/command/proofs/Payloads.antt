@@ -73,15 +73,15 @@ eight xs long =
 
 -- a command as it was read
 module _ (xs : List ℕ) (marked : is_command xs ≡ true) where
-  mark-and-length : (leb head_length (length xs) ≡ true) × (eqb (get_or xs 0 0) command_mark ≡ true)
+  mark_and_length : (leb head_length (length xs) ≡ true) × (eqb (get_or xs 0 0) command_mark ≡ true)
   unfolding is_command
-  mark-and-length = both (leb head_length (length xs)) (eqb (get_or xs 0 0) command_mark) marked
+  mark_and_length = both (leb head_length (length xs)) (eqb (get_or xs 0 0) command_mark) marked
 
   pub long : head_length ≤ length xs
-  long = leb-true head_length (length xs) mark-and-length.0
+  long = leb-true head_length (length xs) mark_and_length.0
 
   mark : get_or xs 0 0 ≡ command_mark
-  mark = eqb-true (get_or xs 0 0) command_mark mark-and-length.1
+  mark = eqb-true (get_or xs 0 0) command_mark mark_and_length.1
 
   pub payload_read : ((i : ℕ) → get_or xs i 0 < 256) → payload (fields_in xs) (rqid_in xs) (data_in xs) ≡ xs
   unfolding payload

@@ -5,7 +5,7 @@
 ghost use Rattle.std.specs.Prelude.{◌≡◌, List, ℕ, ◌≤◌};
 ghost use Rattle.link.specs.Promises.{seen_of};
 ghost use Rattle.ledger.specs.Parts.{Ledger, live_max};
-ghost use Rattle.ledger.specs.Receiving.{ack_message, onSequenced};
+ghost use Rattle.ledger.specs.Receiving.{ack_message, on_sequenced};
 ghost use Rattle.endpoint.specs.Endpoint.{live_of};
 ghost use Rattle.live_changes.specs.Changing.{Names};
 ghost use Rattle.decisions_verdict.specs.Verdicts.{act_of, Judges};
@@ -46,7 +46,7 @@ fn on_sequenced(live: Requests, seen: Seen, reserved: u64, seq: Seq, payload: &[
     requires { live.count ≤ live_max }
     ensures { ((l : Ledger) (clock : ℕ) (store : List ℕ) → l.live ≡ live_of live store → l.reserved ≡ reserved
         → l.seen ≡ seen_of seen
-        → onSequenced l clock seq.0 payload.now ≡ act_of result (ack_message seq.0) payload.now l.live)
+        → on_sequenced l clock seq.0 payload.now ≡ act_of result (ack_message seq.0) payload.now l.live)
         × Names result.change live.count }
 {
     if seen.is_repeat(seq) {

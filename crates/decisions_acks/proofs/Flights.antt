@@ -11,7 +11,7 @@ use Rattle.link.specs.declared.repeats.Seen.{Seen}
 use Rattle.message.specs.declared.Seq.{Seq}
 use Rattle.ledger.specs.Parts as ledger
 use Rattle.ledger.specs.Parts.{Ledger, Search, in_flight, oldest}
-use Rattle.ledger.specs.Receiving.{flies, acknowledged_in, onAck, onNak}
+use Rattle.ledger.specs.Receiving.{flies, acknowledged_in, on_ack, on_nak}
 use Rattle.ledger.specs.declared.Cause.TheVariants.{Acknowledged}
 use Rattle.ledger.specs.declared.Word.TheVariants as word
 use Rattle.endpoint.specs.Endpoint.{state_of, live_of}
@@ -32,7 +32,7 @@ module _ (l : Ledger) (clock : ℕ) (store payload : List ℕ) (live : Requests)
     abbrev acknowledged : Search link.Frame
     acknowledged = oldest (λ q. acknowledged_in seq.0 q.state) l.live
 
-    pub ack_stray : live.count ≤ row → {v : Verdict} → Only v word.Stray seen → onAck l clock acknowledged ≡ act_of v [] payload l.live
+    pub ack_stray : live.count ≤ row → {v : Verdict} → Only v word.Stray seen → on_ack l clock acknowledged ≡ act_of v [] payload l.live
     ack_stray none-there o =
         rw (none_found (λ q. acknowledged_in seq.0 q.state) s (λ them. refl) l.live store same none-there, last)
         (only_act o [] payload l.live)
@@ -41,25 +41,25 @@ module _ (l : Ledger) (clock : ℕ) (store payload : List ℕ) (live : Requests)
       abbrev there : Finds (λ q. acknowledged_in seq.0 q.state) l.live row
       there = one_found (λ q. acknowledged_in seq.0 q.state) s (λ them. refl) l.live store same less
 
-      is-wanted : (at row l.live).wanted ≡ (row_at live row).wanted
-      is-wanted =
+      is_wanted : (at row l.live).wanted ≡ (row_at live row).wanted
+      is_wanted =
           ap (λ (q : ledger.Request). q.wanted)
           (found_row (λ q. acknowledged_in seq.0 q.state) s (λ them. refl) l.live store same less)
 
       pub ack_waits : (row_at live row).wanted ≡ true
-          → onAck l clock acknowledged
+          → on_ack l clock acknowledged
           ≡ act_of (record { word = word.Nothing; change = change.Turn row (Waiting clock); seen = seen }) [] payload l.live
-      ack_waits wanted = rw (there.found, is-wanted, wanted, last)
+      ack_waits wanted = rw (there.found, is_wanted, wanted, last)
 
       pub ack_ends : (row_at live row).wanted ≡ false
-          → onAck l clock acknowledged
+          → on_ack l clock acknowledged
           ≡ act_of (record { word = word.Nothing; change = change.End row Acknowledged; seen = seen }) [] payload l.live
-      ack_ends unwanted = rw (there.found, is-wanted, unwanted, last)
+      ack_ends unwanted = rw (there.found, is_wanted, unwanted, last)
 
   -- NAK
   module _ (s : Searched live query.Flying row) where
     pub nak_stray : live.count ≤ row → {v : Verdict} → Only v word.Stray seen
-        → onNak l clock (oldest flies l.live) ≡ act_of v [] payload l.live
+        → on_nak l clock (oldest flies l.live) ≡ act_of v [] payload l.live
     nak_stray none-there o =
         rw (none_found flies s (λ them. refl) l.live store same none-there, last) (only_act o [] payload l.live)
 
@@ -73,7 +73,7 @@ module _ (l : Ledger) (clock : ℕ) (store payload : List ℕ) (live : Requests)
           ∙ flying_state (at row l.live).state flight.shown
 
       pub nak_marks : {g : Frame} → (row_at live row).state ≡ InFlight g → (next : Frame) → frame_of next ≡ with_mark (frame_of g)
-          → onNak l clock (oldest flies l.live)
+          → on_nak l clock (oldest flies l.live)
           ≡ act_of (record { word = word.Nothing; change = change.Turn row (InFlight next); seen = seen }) [] payload l.live
       nak_marks {g} is next is-next =
           let both = sym (ap state_of is) ∙ flies_there in

@@ -4,7 +4,7 @@
 ghost use Rattle.std.specs.Prelude.{◌≡◌, List, [], ℕ, ◌≤◌};
 ghost use Rattle.link.specs.Promises.{seen_of};
 ghost use Rattle.ledger.specs.Parts.{Ledger, live_max, oldest};
-ghost use Rattle.ledger.specs.Receiving.{flies, acknowledged_in, onAck, onNak};
+ghost use Rattle.ledger.specs.Receiving.{flies, acknowledged_in, on_ack, on_nak};
 ghost use Rattle.endpoint.specs.Endpoint.{live_of};
 ghost use Rattle.live_changes.specs.Changing.{Names};
 ghost use Rattle.decisions_verdict.specs.Verdicts.{act_of};
@@ -22,7 +22,7 @@ use message::Seq;
 pub fn on_ack(live: Requests, seen: Seen, seq: Seq, clock: u64) -> Verdict
     requires { live.count ≤ live_max }
     ensures { ((l : Ledger) (store payload : List ℕ) → l.live ≡ live_of live store → l.seen ≡ seen_of seen
-        → onAck l clock (oldest (λ q. acknowledged_in seq.0 q.state) l.live) ≡ act_of result [] payload l.live)
+        → on_ack l clock (oldest (λ q. acknowledged_in seq.0 q.state) l.live) ≡ act_of result [] payload l.live)
         × Names result.change live.count }
 {
     let row = find(live, Query::Acknowledged(seq));
@@ -49,7 +49,7 @@ pub fn on_ack(live: Requests, seen: Seen, seq: Seq, clock: u64) -> Verdict
 pub fn on_nak(live: Requests, seen: Seen) -> Verdict
     requires { live.count ≤ live_max }
     ensures { ((l : Ledger) (clock : ℕ) (store payload : List ℕ) → l.live ≡ live_of live store → l.seen ≡ seen_of seen
-        → onNak l clock (oldest flies l.live) ≡ act_of result [] payload l.live)
+        → on_nak l clock (oldest flies l.live) ≡ act_of result [] payload l.live)
         × Names result.change live.count }
 {
     let row = find(live, Query::Flying);

@@ -19,7 +19,7 @@ use Rattle.ledger.specs.Parts.{Ledger, Search, oldest}
 use Rattle.ledger.specs.Answers as answer
 use Rattle.ledger.specs.Promises.{command_of}
 use Rattle.ledger.specs.Receiving as receiving
-use Rattle.ledger.specs.Receiving.{provided, matches, command_in, remembering, onResponse, onData}
+use Rattle.ledger.specs.Receiving.{provided, matches, command_in, remembering, on_response, on_data}
 use Rattle.ledger.specs.declared.Cause.TheVariants.{Response}
 use Rattle.ledger.specs.declared.Command.{Command}
 use Rattle.ledger.specs.declared.Word.TheVariants as word
@@ -43,7 +43,7 @@ answering l c = oldest (λ q. provided (matches c q) tt) l.live
 
 module _ (l : Ledger) (clock : ℕ) (store payload : List ℕ) (live : Requests) (same : l.live ≡ live_of live store) (seen : Seen) (it : Command) where
   abbrev response : receiving.Act
-  response = remembering (seen_of seen) (onResponse l clock (command_of it) (data_in payload) (answering l (command_of it)))
+  response = remembering (seen_of seen) (on_response l clock (command_of it) (data_in payload) (answering l (command_of it)))
 
   module _ (row : ℕ) (s : Searched live (query.Answered it.fields it.id) row) where
     abbrev asks : Asks (matched (command_of it)) (query.Answered it.fields it.id)
@@ -84,31 +84,31 @@ module _ (payload : List ℕ) {r : Reading} (read : command.command_of r ≡ com
 -- what a command does
 abbrev pub on_command : Ledger → (clock : ℕ) (payload : List ℕ) → answer.Command → receiving.Act
 on_command l clock payload c =
-    if (leb 1 c.rqid && leb c.rqid l.reserved) (event l payload c) (onResponse l clock c (data_in payload) (answering l c))
+    if (leb 1 c.rqid && leb c.rqid l.reserved) (event l payload c) (on_response l clock c (data_in payload) (answering l c))
 
 on_command_law : (l : Ledger) (clock : ℕ) (payload : List ℕ) → is_command payload ≡ true
-    → onData l clock payload ≡ on_command l clock payload (command_in payload)
-unfolding onData
+    → on_data l clock payload ≡ on_command l clock payload (command_in payload)
+unfolding on_data
 on_command_law l clock payload h = rw h
 
 module _ (l : Ledger) (clock : ℕ) (payload : List ℕ) (seen : Seen) where
   abbrev does : receiving.Act
-  does = remembering (seen_of seen) (onData l clock payload)
+  does = remembering (seen_of seen) (on_data l clock payload)
 
   pub data_none : is_command payload ≡ false → {v : Verdict} → Only v word.NotCommand seen → does ≡ act_of v [] payload l.live
-  unfolding onData
+  unfolding on_data
   data_none h o = rw h (only_act o [] payload l.live)
 
   module _ {it : Command} (told : (is_command payload ≡ true) × (command_of it ≡ command_in payload)) {reserved : ℕ} (r : l.reserved ≡ reserved) where
-    as-told : onData l clock payload ≡ on_command l clock payload (command_of it)
-    as-told = on_command_law l clock payload told.0 ∙ ap (on_command l clock payload) (sym told.1)
+    as_told : on_data l clock payload ≡ on_command l clock payload (command_of it)
+    as_told = on_command_law l clock payload told.0 ∙ ap (on_command l clock payload) (sym told.1)
 
     pub data_event : (leb 1 it.id.0 && leb it.id.0 reserved) ≡ true → {v : Verdict} → Only v (word.Event it) seen
         → does ≡ act_of v [] payload l.live
-    data_event h o = ap (remembering (seen_of seen)) as-told ∙ rw (r, h) (only_act o [] payload l.live)
+    data_event h o = ap (remembering (seen_of seen)) as_told ∙ rw (r, h) (only_act o [] payload l.live)
 
     pub data_other : (leb 1 it.id.0 && leb it.id.0 reserved) ≡ false → (v : Verdict)
-        → remembering (seen_of seen) (onResponse l clock (command_of it) (data_in payload) (answering l (command_of it)))
+        → remembering (seen_of seen) (on_response l clock (command_of it) (data_in payload) (answering l (command_of it)))
         ≡ act_of v [] payload l.live
         → does ≡ act_of v [] payload l.live
-    data_other h v is = ap (remembering (seen_of seen)) as-told ∙ rw (r, h) is
+    data_other h v is = ap (remembering (seen_of seen)) as_told ∙ rw (r, h) is

@@ -7,7 +7,7 @@ ghost use Rattle.command.specs.Payload.{data_in};
 ghost use Rattle.link.specs.Promises.{seen_of};
 ghost use Rattle.ledger.specs.Parts.{Ledger, live_max, oldest};
 ghost use Rattle.ledger.specs.Promises.{command_of};
-ghost use Rattle.ledger.specs.Receiving.{provided, matches, remembering, onResponse, onData};
+ghost use Rattle.ledger.specs.Receiving.{provided, matches, remembering, on_response, on_data};
 ghost use Rattle.endpoint.specs.Endpoint.{live_of};
 ghost use Rattle.live_changes.specs.Changing.{Names};
 ghost use Rattle.decisions_verdict.specs.Verdicts.{act_of};
@@ -26,7 +26,7 @@ use live_search::{Query, find};
 pub fn on_data(live: Requests, seen: Seen, reserved: u64, payload: &[u8]) -> Verdict
     requires { live.count ≤ live_max }
     ensures { ((l : Ledger) (clock : ℕ) (store : List ℕ) → l.live ≡ live_of live store → l.reserved ≡ reserved
-        → remembering (seen_of seen) (onData l clock payload.now) ≡ act_of result [] payload.now l.live)
+        → remembering (seen_of seen) (on_data l clock payload.now) ≡ act_of result [] payload.now l.live)
         × Names result.change live.count }
 {
     let reading = command::reader::read(payload);
@@ -52,7 +52,7 @@ fn is_event(reserved: u64, id: RequestId) -> bool
 fn on_response(live: Requests, seen: Seen, it: Command) -> Verdict
     requires { live.count ≤ live_max }
     ensures { ((l : Ledger) (clock : ℕ) (store payload : List ℕ) → l.live ≡ live_of live store
-        → remembering (seen_of seen) (onResponse l clock (command_of it) (data_in payload)
+        → remembering (seen_of seen) (on_response l clock (command_of it) (data_in payload)
         (oldest (λ q. provided (matches (command_of it) q) tt) l.live)) ≡ act_of result [] payload l.live)
         × Names result.change live.count }
 {

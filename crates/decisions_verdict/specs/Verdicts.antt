@@ -6,7 +6,7 @@ use Rattle.link.specs.Promises.{seen_of}
 use Rattle.ledger.specs.Parts.{Request}
 use Rattle.ledger.specs.Promises.{word_of}
 use Rattle.ledger.specs.Receiving as receiving
-use Rattle.ledger.specs.Receiving.{ack_message, onMessage}
+use Rattle.ledger.specs.Receiving.{ack_message, on_message}
 use Rattle.ledger.specs.declared.Word.{Word}
 use Rattle.ledger.specs.declared.Word.TheVariants.{Nothing, Stray, Repeat, NotCommand, Event, Response, Unmatched}
 use Rattle.endpoint.specs.Endpoint.{ledger_of, live_of}
@@ -41,6 +41,6 @@ reply_to type seq = if (eqb type data_seq) (ack_message seq) []
 
 -- the verdict is what a message does
 pub record Judges (v : Verdict) (e : Endpoint) (type seq : ℕ) (payload : List ℕ) (clock : ℕ) : Type 0 where
-  pub acts : (store : List ℕ) → onMessage (ledger_of e store) clock type seq payload
+  pub acts : (store : List ℕ) → on_message (ledger_of e store) clock type seq payload
       ≡ act_of v (reply_to type seq) payload (live_of e.live store)
   pub names : Names v.change e.live.count

@@ -106,24 +106,24 @@ record Clear (r clock : ℕ) (rows : List Request) : Type 0 where
 
 -- the code's test of a state is the rule's three
 module _ (clock : ℕ) (wanted : Bool) where
-  state-clear : (s : ledger.State) → bad_state clock wanted s ≡ false
+  state_clear : (s : ledger.State) → bad_state clock wanted s ≡ false
       → (wrongly_often s ≡ false) × (waits_for_nothing wanted s ≡ false) × (is_late clock s ≡ false)
-  state-clear queued h = (refl, refl, refl)
-  state-clear (in_flight f) h =
+  state_clear queued h = (refl, refl, refl)
+  state_clear (in_flight f) h =
       let t = f.transmissions in
       let parts = neither (ltb t 1 || ltb max_transmissions t) (ltb clock f.sent) h in
       let sent = neither (ltb t 1) (ltb max_transmissions t) parts.0 in
       (rw (le-leb 1 t (ltb-false t 1 sent.0), le-leb t max_transmissions (ltb-false max_transmissions t sent.1)), refl, parts.1)
-  state-clear (waiting since) h = let parts = neither (not wanted) (ltb clock since) h in (refl, parts.0, parts.1)
+  state_clear (waiting since) h = let parts = neither (not wanted) (ltb clock since) h in (refl, parts.0, parts.1)
 
-  state-good : (s : ledger.State) → wrongly_often s ≡ false → waits_for_nothing wanted s ≡ false → is_late clock s ≡ false
+  state_good : (s : ledger.State) → wrongly_often s ≡ false → waits_for_nothing wanted s ≡ false → is_late clock s ≡ false
       → bad_state clock wanted s ≡ false
-  state-good queued often wants time = refl
-  state-good (in_flight f) often wants time =
+  state_good queued often wants time = refl
+  state_good (in_flight f) often wants time =
       let t = f.transmissions in
       let sent = (and-eq-true_iff (leb 1 t) (leb t max_transmissions)).0 (not-false (leb 1 t && leb t max_transmissions) often) in
       rw (le-ltb t 1 (leb-true 1 t sent.0), le-ltb max_transmissions t (leb-true t max_transmissions sent.1)) time
-  state-good (waiting since) often wants time = rw wants time
+  state_good (waiting since) often wants time = rw wants time
 
 -- the code's tests of all rows are the rule's
 module _ (r clock : ℕ) where
@@ -135,7 +135,7 @@ module _ (r clock : ℕ) where
       let more = neither (is_live q.id.0 (bare_of rows)) _ parts.1 in
       let own = neither (is_outside r q.id.0) _ parts.0 in
       let rest = neither (ltb max_data q.len) _ own.1 in
-      let state = state-clear clock q.wanted (state_of q.state) rest.1 in
+      let state = state_clear clock q.wanted (state_of q.state) rest.1 in
       let later = clear rows more.1 in
       record {
         ids = rw own.0 later.ids;
@@ -157,7 +157,7 @@ module _ (r clock : ℕ) where
       let short = neither (ltb max_data q.len) _ h.short in
       let wants = neither (waits_for_nothing q.wanted s) _ h.wants in
       let time = neither (is_late clock s) _ h.times in
-      let state = state-good clock q.wanted s often.0 wants.0 time.0 in
+      let state = state_good clock q.wanted s often.0 wants.0 time.0 in
       let later : Clear r clock rows = record {
         ids = id.1;
         unequal = same.1;

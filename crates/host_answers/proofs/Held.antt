@@ -30,8 +30,8 @@ first_of_front n s few = take-take n held_max s few
 
 -- another front of the same length
 module _ (x s : List ℕ) (size : length x ≡ held_max) where
-  front-lent : take held_max (x ++ drop held_max s) ≡ x
-  front-lent = take_at x (drop held_max s) held_max size
+  front_lent : take held_max (x ++ drop held_max s) ≡ x
+  front_lent = take_at x (drop held_max s) held_max size
 
   pub rest_lent : drop held_max (x ++ drop held_max s) ≡ drop held_max s
   rest_lent = drop_at x (drop held_max s) held_max size
@@ -43,23 +43,23 @@ module _ (x s : List ℕ) (size : length x ≡ held_max) where
   pub decided_in : (d : Decision) (held : ℕ) (new : List ℕ) → held ≤ held_max → Decides d (take held (take held_max s)) new x
       → DecidesIn d held new s (x ++ drop held_max s)
   decided_in d held new few decides = record {
-    decides = rw (front-lent, ← first_of_front held s few) decides;
+    decides = rw (front_lent, ← first_of_front held s few) decides;
     rooms = rest_lent;
   }
 
 -- stores that agree behind the front have the same rooms, and so the same live requests
 module _ (s x : List ℕ) (same : drop held_max x ≡ drop held_max s) where
-  same-room : (i n : ℕ) → room_at x i n ≡ room_at s i n
-  same-room i n =
+  same_room : (i n : ℕ) → room_at x i n ≡ room_at s i n
+  same_room i n =
       ap (take n) (sym (drop-drop (i * max_data) held_max x) ∙ ap (drop (i * max_data)) same ∙ drop-drop (i * max_data) held_max s)
 
-  same-requests : (i : ℕ) (rows : List Request) → requests_from i rows x ≡ requests_from i rows s
+  same_requests : (i : ℕ) (rows : List Request) → requests_from i rows x ≡ requests_from i rows s
   unfolding requests_from
-  same-requests i [] = refl
-  same-requests i (q ∷ qs) = rw (same-room i q.len, same-requests (suc i) qs)
+  same_requests i [] = refl
+  same_requests i (q ∷ qs) = rw (same_room i q.len, same_requests (suc i) qs)
 
   pub same_live : (live : Requests) → live_of live x ≡ live_of live s
-  same_live live = same-requests 0 (rows_of live)
+  same_live live = same_requests 0 (rows_of live)
 
 -- where the front stays, so do the held bytes
 pub held_same : (n : ℕ) (s x : List ℕ) → n ≤ held_max → take held_max x ≡ take held_max s → take n x ≡ take n s

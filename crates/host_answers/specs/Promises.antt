@@ -67,13 +67,13 @@ Submitted r e fields bytes wanted clock store exit =
 
 -- receive, with the reply and the data buffer at entry and at exit
 abbrev pub Received : receiving.Received → Endpoint → (bytes reply buffer : List ℕ) (clock : ℕ)
-    → (store exit replyExit bufferExit : List ℕ) → Type 0
-Received r e bytes reply buffer clock store exit replyExit bufferExit =
-    Promise e store (receive bytes reply buffer clock) (receive_result r exit replyExit bufferExit)
+    → (store exit reply_exit buffer_exit : List ℕ) → Type 0
+Received r e bytes reply buffer clock store exit reply_exit buffer_exit =
+    Promise e store (receive bytes reply buffer clock) (receive_result r exit reply_exit buffer_exit)
 
 -- poll, with the output at entry and at exit
-abbrev pub Polled : polling.Polled → Endpoint → (output : List ℕ) (clock : ℕ) → (store exit outputExit : List ℕ) → Type 0
-Polled r e output clock store exit outputExit = Promise e store (poll output clock) (poll_result r exit outputExit)
+abbrev pub Polled : polling.Polled → Endpoint → (output : List ℕ) (clock : ℕ) → (store exit output_exit : List ℕ) → Type 0
+Polled r e output clock store exit output_exit = Promise e store (poll output clock) (poll_result r exit output_exit)
 
 -- open: "It starts fresh for what open was given, or for R = 0 where open refused.", whatever the store holds
 pub record Opened (r : opening.Opened) (given : ℕ) : Type 0 where

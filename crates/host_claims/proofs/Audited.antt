@@ -20,11 +20,11 @@ use Rattle.host_claims.proofs.Laws.{demand_3, never_malformed}
 module _ {given : ℕ} {first : opening.Opened} {calls : List Call} {outcomes : List Outcome} {e : Endpoint} {store : List ℕ}
     (chain : Chain given first calls outcomes e store) where
   -- the endpoint keeps the R that open was given, or 0 where open refused it
-  keeps-reserved : e.reserved ≡ reserved_for given
-  keeps-reserved =
+  keeps_reserved : e.reserved ≡ reserved_for given
+  keeps_reserved =
       ap (λ (l : Ledger). l.reserved) (demand_3 chain).ledger
       ∙ sym (ap (λ (s : Run). s.ledger.reserved) (run_agrees live_max given calls)) ∙ (ledger_claims_3 given calls).same
 
   -- no live request has an ID that is 0, at most R, or equal to an earlier one's
   pub audit_finds_none : audit (reserved_for given) (ids_of (rows_of e.live)) ≡ none
-  audit_finds_none = subst (λ (r : ℕ). audit r (ids_of (rows_of e.live)) ≡ none) keeps-reserved (sound_endpoint e (never_malformed chain))
+  audit_finds_none = subst (λ (r : ℕ). audit r (ids_of (rows_of e.live)) ≡ none) keeps_reserved (sound_endpoint e (never_malformed chain))

@@ -19,20 +19,20 @@ use Rattle.host_claims.proofs.Refining.{refines, past_of_law}
 module _ {given : ℕ} {first : opening.Opened} {calls : List Call} {outcomes : List Outcome} {e : Endpoint} {store : List ℕ}
     (chain : Chain given first calls outcomes e store) where
   -- what has happened, and what is held, as a run of the ledger shows them
-  same-past : (run live_max (start given) calls).past ≡ past_of calls outcomes
-  same-past = past_of_law (refines chain)
+  same_past : (run live_max (start given) calls).past ≡ past_of calls outcomes
+  same_past = past_of_law (refines chain)
 
-  same-held : (run live_max (start given) calls).ledger.held ≡ take e.held store
-  same-held =
+  same_held : (run live_max (start given) calls).ledger.held ≡ take e.held store
+  same_held =
       ap (λ (s : Run). s.ledger.held) (run_agrees live_max given calls) ∙ sym (ap (λ (l : Ledger). l.held) (refines chain).ledger)
 
   pub as_joined : HeardAs (past_of calls outcomes) (take e.held store)
-  as_joined = rw (same-past, same-held) at (ledger.heard_as_joined live_max given calls)
+  as_joined = rw (same_past, same_held) at (ledger.heard_as_joined live_max given calls)
 
   pub all_answered : last_receive (past_of calls outcomes) ≡ more → HeardAll (past_of calls outcomes) (take e.held store)
   all_answered last =
-      rw (same-past, same-held) at
-      (ledger.heard_all live_max given calls (subst (λ (past : List Entry). last_receive past ≡ more) (sym same-past) last))
+      rw (same_past, same_held) at
+      (ledger.heard_all live_max given calls (subst (λ (past : List Entry). last_receive past ≡ more) (sym same_past) last))
 
 pub alike : {given given' : ℕ} {first first' : opening.Opened} {calls calls' : List Call} {outcomes outcomes' : List Outcome}
     {e e' : Endpoint} {store store' : List ℕ} → (chain : Chain given first calls outcomes e store)

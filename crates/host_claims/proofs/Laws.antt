@@ -62,10 +62,10 @@ open_answers r given opened = opened.answers
 
 -- Demand 2, for one accepted receive: the item, the bytes taken and the bytes held then are those of the line
 pub receives_items : (r : receiving.Received) (e : Endpoint) (bytes reply buffer : List ℕ) (clock : ℕ)
-    (store exit replyExit bufferExit : List ℕ) → promise.Received r e bytes reply buffer clock store exit replyExit bufferExit
+    (store exit reply_exit buffer_exit : List ℕ) → promise.Received r e bytes reply buffer clock store exit reply_exit buffer_exit
     → Receipts r e bytes reply buffer clock store exit
-receives_items r e bytes reply buffer clock store exit replyExit bufferExit promised =
-    received.receives_items r e bytes reply buffer clock store exit replyExit bufferExit promised
+receives_items r e bytes reply buffer clock store exit reply_exit buffer_exit promised =
+    received.receives_items r e bytes reply buffer clock store exit reply_exit buffer_exit promised
 
 -- Demand 3: for every R, every list of calls from open on, and every endpoint and store that the calls hand on
 pub demand_3 : {given : ℕ} {first : opening.Opened} {calls : List Call} {outcomes : List Outcome} {e : Endpoint} {store : List ℕ}

@@ -13,11 +13,11 @@ use Rattle.host_answers.specs.Promises as promise
 use Rattle.host_answers.specs.declared.Received.{Received}
 use Rattle.host_claims.specs.Claims.{Gives, Receipts}
 
-gives : (r : Received) (e : Endpoint) (bytes reply buffer : List ℕ) (clock : ℕ) (store exit replyExit bufferExit : List ℕ)
-    → Meets (accepts (ledger_of e store) (receive bytes reply buffer clock)) (receive_result r exit replyExit bufferExit)
+gives : (r : Received) (e : Endpoint) (bytes reply buffer : List ℕ) (clock : ℕ) (store exit reply_exit buffer_exit : List ℕ)
+    → Meets (accepts (ledger_of e store) (receive bytes reply buffer clock)) (receive_result r exit reply_exit buffer_exit)
     → Gives r e bytes store exit
 unfolding ledger.receive
-gives r e bytes reply buffer clock store exit replyExit bufferExit meets = record {
+gives r e bytes reply buffer clock store exit reply_exit buffer_exit meets = record {
   receipt = _;
   answers = meets.answers;
   item = refl;
@@ -26,7 +26,7 @@ gives r e bytes reply buffer clock store exit replyExit bufferExit meets = recor
 }
 
 pub receives_items : (r : Received) (e : Endpoint) (bytes reply buffer : List ℕ) (clock : ℕ)
-    (store exit replyExit bufferExit : List ℕ) → promise.Received r e bytes reply buffer clock store exit replyExit bufferExit
+    (store exit reply_exit buffer_exit : List ℕ) → promise.Received r e bytes reply buffer clock store exit reply_exit buffer_exit
     → Receipts r e bytes reply buffer clock store exit
-receives_items r e bytes reply buffer clock store exit replyExit bufferExit promised accepted =
-    gives r e bytes reply buffer clock store exit replyExit bufferExit (rw accepted at promised)
+receives_items r e bytes reply buffer clock store exit reply_exit buffer_exit promised accepted =
+    gives r e bytes reply buffer clock store exit reply_exit buffer_exit (rw accepted at promised)

@@ -48,12 +48,12 @@ steps e store c o fine promised =
         record {
           answers = refuses.answers ∙ ap (λ (d : Done). d.answer) (sym same);
           leaves = refuses.leaves ∙ ap (λ (d : Done). d.buffers) (sym same);
-          next = ledger-same refuses.keeps refuses.stores ∙ ap (λ (d : Done). d.next) (sym same);
+          next = ledger_same refuses.keeps refuses.stores ∙ ap (λ (d : Done). d.next) (sym same);
           sound = ap malformed refuses.keeps ∙ fine;
         }
       where
-        ledger-same : {e' : Endpoint} {store' : List ℕ} → e' ≡ e → store' ≡ store → ledger_of e' store' ≡ ledger_of e store
-        ledger-same p q = rw (p, q)
+        ledger_same : {e' : Endpoint} {store' : List ℕ} → e' ≡ e → store' ≡ store → ledger_of e' store' ≡ ledger_of e store
+        ledger_same p q = rw (p, q)
 
 -- a list of outcomes that is the ledger's
 pub record Refines (given : ℕ) (calls : List Call) (outcomes : List Outcome) (e : Endpoint) (store : List ℕ) : Type 0 where

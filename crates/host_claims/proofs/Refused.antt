@@ -23,9 +23,9 @@ module _ (e : Endpoint) (store : List ℕ) (c : Call) (o : Result) (promised : P
   refused_where n table = rw table at promised
 
   -- a malformed endpoint is refused by the first line
-  first-line : malformed e ≡ true → refusal_of e store c ≡ some 1
+  first_line : malformed e ≡ true → refusal_of e store c ≡ some 1
   unfolding first_of
-  first-line bad = rw bad
+  first_line bad = rw bad
 
   -- and only there
   pub refused_only : (n : ℕ) → o.answer ≡ refused n → refusal_of e store c ≡ some n
@@ -36,7 +36,7 @@ module _ (e : Endpoint) (store : List ℕ) (c : Call) (o : Result) (promised : P
 
       go : (b : Bool) → malformed e ≡ b → refusal_of e store c ≡ some n
       go true bad =
-          let first = first-line bad in
+          let first = first_line bad in
           first ∙ ap some (numbers (sym (refused_where 1 first).answers ∙ h))
       go false fine =
           same_refusal e store c fine

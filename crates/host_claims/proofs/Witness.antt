@@ -25,7 +25,7 @@ use Rattle.ledger.specs.Parts.{oldest}
 use Rattle.ledger.specs.Answers.{no_response, no_word, sent, ended, quiet, refused, submitted}
 use Rattle.ledger.specs.Submitting.{id_after, is_live, first_free}
 use Rattle.ledger.specs.Receiving as receiving
-use Rattle.ledger.specs.Receiving.{onMessage}
+use Rattle.ledger.specs.Receiving.{on_message}
 use Rattle.ledger.specs.Polling as polling
 use Rattle.ledger.specs.Polling.{earliest}
 use Rattle.ledger.specs.Calls.{Call, submit, receive, poll}
@@ -168,7 +168,7 @@ unfolding first_of malformed too_long flights two_equal some_of is_live requests
 computed = tt
 
 heard : Unit {0}
-unfolding computed receiving.receive onMessage line.receive line.taken line.smallest scan dropped stands rules allowed
+unfolding computed receiving.receive on_message line.receive line.taken line.smallest scan dropped stands rules allowed
 heard = tt
 
 -- open

@@ -92,12 +92,12 @@ decided_part d middle new = part_of d.answer d.payload (take held_max middle) ne
 module _ (e : Endpoint) (d : Decision) (v : Verdict) (clock replied : ℕ) (r : Received) (new entry middle exit reply buffer : List ℕ)
     (decided : DecidesIn d e.held new entry middle) (acts : Acts e d v replied clock r middle exit) where
   -- the act is the ledger's
-  same-act : (words left given : List ℕ) → act (ledger_of e entry) clock (answer_of d.answer) (decided_part d middle new)
+  same_act : (words left given : List ℕ) → act (ledger_of e entry) clock (answer_of d.answer) (decided_part d middle new)
       ≡ act_of v words (decided_part d middle new) (live_of e.live entry)
       → Put replied words reply left → placed 0 (bytes_for v.word (decided_part d middle new)) buffer ≡ given
       → Does (ledger.receive (ledger_of e entry) new reply buffer clock) (receive_result r exit left given)
   unfolding ledger.receive
-  same-act words left given same put gives =
+  same_act words left given same put gives =
       let received = line.receive (take e.held entry) new in
       let its : act (ledger_of e entry) clock received.answer received.payload
       ≡ act_of v words (decided_part d middle new) (live_of e.live entry) =
@@ -119,7 +119,7 @@ module _ (e : Endpoint) (d : Decision) (v : Verdict) (clock replied : ℕ) (r : 
   pub on_more : replied ≡ 0 → d.answer ≡ More → NoMore v e
       → Does (ledger.receive (ledger_of e entry) new reply buffer clock) (receive_result r exit reply buffer)
   on_more no-reply more h =
-      same-act [] reply buffer (rw (more, h.word, h.change, h.seen))
+      same_act [] reply buffer (rw (more, h.word, h.change, h.seen))
       (record { counts = no-reply; leaves = sym (placed_none reply) }) (untouched h)
 
   -- an item that is no message
@@ -127,13 +127,13 @@ module _ (e : Endpoint) (d : Decision) (v : Verdict) (clock replied : ℕ) (r : 
       → NoMore v e → Put replied (reply_for (item_of i)) reply left
       → Does (ledger.receive (ledger_of e entry) new reply buffer clock) (receive_result r exit left buffer)
   on_plain i left one k h put =
-      same-act (reply_for (item_of i)) left buffer (answered (One i) one ∙ plain e clock v i (decided_part d middle new) entry h k) put
+      same_act (reply_for (item_of i)) left buffer (answered (One i) one ∙ plain e clock v i (decided_part d middle new) entry h k) put
       (untouched h)
 
   -- a message
-  pub on_message : (t len : ℕ) (q : Seq) (left given : List ℕ) → d.answer ≡ One (Message t q len)
+  pub on_message_law : (t len : ℕ) (q : Seq) (left given : List ℕ) → d.answer ≡ One (Message t q len)
       → Put replied (reply_to t q.0) reply left → Judges v e t q.0 (decided_part d middle new) clock
       → given ≡ placed 0 (bytes_for v.word (decided_part d middle new)) buffer
       → Does (ledger.receive (ledger_of e entry) new reply buffer clock) (receive_result r exit left given)
-  on_message t len q left given one put judges gives =
-      same-act (reply_to t q.0) left given (answered (One (Message t q len)) one ∙ judges.acts entry) put (sym gives)
+  on_message_law t len q left given one put judges gives =
+      same_act (reply_to t q.0) left given (answered (One (Message t q len)) one ∙ judges.acts entry) put (sym gives)

@@ -72,13 +72,13 @@ module _ (e : Endpoint) (clock : ℕ) (store : List ℕ) (ready : Sound e clock)
       })
 
   -- a frame goes out
-  pub sent : (row : ℕ) (frame : Frame) (next : Seq) (count : ℕ) (live : Requests) (after : Endpoint) (exit output outputExit : List ℕ)
-      → Put count (frame_bytes (at row (live_of e.live store)) frame.seq.0) output outputExit
+  pub sent : (row : ℕ) (frame : Frame) (next : Seq) (count : ℕ) (live : Requests) (after : Endpoint) (exit output output_exit : List ℕ)
+      → Put count (frame_bytes (at row (live_of e.live store)) frame.seq.0) output output_exit
       → Becomes live (changed (Turn row (InFlight frame)) (live_of e.live store)) store exit
       → after ≡ polled_endpoint e live next clock
       → Does (polled_as (ledger_of e store) (sent_from (ledger_of e store) clock (frame_of frame) next.0 row) output clock)
-      (poll_result (record { answer = answer.Sent count; endpoint = after }) exit outputExit)
-  sent row frame next count live after exit output outputExit put becomes back =
+      (poll_result (record { answer = answer.Sent count; endpoint = after }) exit output_exit)
+  sent row frame next count live after exit output output_exit put becomes back =
       let held = held_same e.held store exit (held_of e ready.sound) becomes.holds in
       rw back (record {
         answers = rw put.counts;

@@ -39,9 +39,9 @@ use Rattle.refusals.proofs.Table.{first_holds, passed, own_passed}
 module _ (e : Endpoint) (fields : Fields) (wanted : Bool) (clock : ℕ) (store bytes : List ℕ) (three : length e.live.rows ≡ live_max)
     (ready : Sound e clock) where
   -- the ID that the code has found is the ledger's
-  found-id : (id : RequestId) → id.0 ≡ first_free e.live.count e.reserved (bare_of (rows_of e.live)) e.next.0
+  found_id : (id : RequestId) → id.0 ≡ first_free e.live.count e.reserved (bare_of (rows_of e.live)) e.next.0
       → id.0 ≡ issued (ledger_of e store)
-  found-id id found =
+  found_id id found =
       found
       ∙ sym (ap (λ (n : ℕ). first_free n e.reserved (live_of e.live store) e.next.0)
       (length_live e.live three (fits_of e ready.sound) store)
@@ -71,7 +71,7 @@ module _ (e : Endpoint) (fields : Fields) (wanted : Bool) (clock : ℕ) (store b
       → Does (submit (ledger_of e store) (fields_of fields) bytes wanted clock)
       (submit_result (record { answer = answer.Submitted id; endpoint = after }) exit)
   joined id next live after exit found becomes later back =
-      let same = found-id id found in
+      let same = found_id id found in
       let held = held_same e.held store exit (held_of e ready.sound) becomes.holds in
       rw back (record {
         answers = rw same;

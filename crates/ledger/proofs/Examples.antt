@@ -13,7 +13,7 @@ use Rattle.link.specs.Repeats.{is_repeat, seen_after}
 use Rattle.ledger.specs.Parts.{oldest}
 use Rattle.ledger.specs.Submitting.{id_after, is_live, first_free}
 use Rattle.ledger.specs.Receiving as ledger
-use Rattle.ledger.specs.Receiving.{matches, onData, onMessage}
+use Rattle.ledger.specs.Receiving.{matches, on_data, on_message}
 use Rattle.ledger.specs.Polling.{earliest}
 use Rattle.ledger.specs.Polling as polling
 use Rattle.ledger.specs.Refusals.{some_of, two_equal, flights, malformed, first_of}
@@ -28,7 +28,7 @@ use Rattle.ledger.proofs.Once.{AgreesOnce, IsTrueOnce, AreTrueOnce, are_true}
 
 -- all that a table is computed with
 computed : Unit {0}
-unfolding AreTrueOnce IsTrueOnce AgreesOnce step first_of malformed flights two_equal some_of polling.act earliest ledger.receive onMessage onData matches first_free is_live id_after oldest
+unfolding AreTrueOnce IsTrueOnce AgreesOnce step first_of malformed flights two_equal some_of polling.act earliest ledger.receive on_message on_data matches first_free is_live id_after oldest
     is_repeat seen_after due may_go_again seq_after payload is_command answers receive taken smallest placed scan dropped stands rules payload_of
     allowed message body header fields le16 checksum_of checksum_from with_bits with_bit bits_of
 computed = tt

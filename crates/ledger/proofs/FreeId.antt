@@ -63,13 +63,13 @@ module _ (r : ℕ) (small : r < last_id) where
       (λ e. record { above = omega arith; within = omega arith })
       (λ e. let ne = eqb-false id last_id e in record { above = omega arith; within = omega arith })
 
-  step-on : {id k x : ℕ} → id ≤ last_id → k + r < last_id → Ahead r id k x → Ahead r id (suc k) (id_after r x)
+  step_on : {id k x : ℕ} → id ≤ last_id → k + r < last_id → Ahead r id k x → Ahead r id (suc k) (id_after r x)
   unfolding id_after
-  step-on {id} {k} {x} u less (straight a) =
+  step_on {id} {k} {x} u less (straight a) =
       by_test (λ b. Ahead r id (suc k) (if b (suc r) (suc x))) (eqb x last_id)
       (λ e. let m = eqb-true x last_id e in around (omega arith))
       (λ e. straight (omega arith))
-  step-on {id} {k} {x} u less (around a) =
+  step_on {id} {k} {x} u less (around a) =
       by_test (λ b. Ahead r id (suc k) (if b (suc r) (suc x))) (eqb x last_id)
       (λ e. let m = eqb-true x last_id e in absurd (omega arith))
       (λ e. around (omega arith))
@@ -91,7 +91,7 @@ module _ (r : ℕ) (small : r < last_id) where
   agree (suc n) {id} {k} {x} u qs p less a =
       let k-less : k + r < last_id = omega arith in
       let n-less : n + suc k + r < last_id = omega arith in
-      let rest = agree n u qs (omega arith) n-less (step-on u k-less a) in
+      let rest = agree n u qs (omega arith) n-less (step_on u k-less a) in
       rw (others_stay id x (away p k-less a) qs)
       (by_test (λ b. Same id (if b (first_free n r qs (id_after r x)) x) (if b (first_free n r (removed id qs) (id_after r x)) x))
       (is_live x qs)
@@ -107,7 +107,7 @@ module _ (r : ℕ) (small : r < last_id) where
       by_test (λ b. is_live (if b (first_free n r qs (id_after r id)) id) qs ≡ false) (is_live id qs)
       (λ e.
       let now : Ahead r id 0 id = straight (omega arith) in
-      let s = agree n {k = 1} u.within qs (omega arith) (omega arith) (step-on {k = 0} u.within (omega arith) now) in
+      let s = agree n {k = 1} u.within qs (omega arith) (omega arith) (step_on {k = 0} u.within (omega arith) now) in
       let few : length (removed id qs) ≤ n = omega (arith, one_fewer id qs e) in
       let rest = first_free_law n (removed id qs) few (omega arith) (after_unreserved u) in
       sym (others_stay id (first_free n r qs (id_after r id)) s.other qs) ∙ rw s.same rest)

@@ -23,7 +23,7 @@ use Rattle.ledger.specs.Answers as answer
 use Rattle.ledger.specs.Answers.{Receipt, Poll, sent, Answer, submitted, received, polled}
 use Rattle.ledger.specs.Submitting.{last_id, id_after, is_live, first_free, issued}
 use Rattle.ledger.specs.Receiving as receiving
-use Rattle.ledger.specs.Receiving.{Act, frame_in, flies, provided, acknowledged_in, matches, command_in, only, onAck, onNak, onResponse, onData, onSequenced, onMessage, act}
+use Rattle.ledger.specs.Receiving.{Act, frame_in, flies, provided, acknowledged_in, matches, command_in, only, on_ack, on_nak, on_response, on_data, on_sequenced, on_message, act}
 use Rattle.ledger.specs.Polling as polling
 use Rattle.ledger.specs.Polling.{overdue_in, queued_in, or_else, step1, step2, step3, step4, polled_as}
 use Rattle.ledger.specs.Calls.{submit, receive, poll}
@@ -105,32 +105,32 @@ module _ (l : Ledger) (t : ℕ) where
   calm : (seen : Seen) (a : Act) → a.seen ≡ seen → a.ending ≡ none → a.live ≡ l.live → Acts seen a
   calm seen a same ending live = record { seen = same; live = changes.Hears.nobody ending live }
 
-  on-ack : (seq : ℕ) (s : Search Frame) → Looked (λ q. acknowledged_in seq q.state) l.live s → Acts l.seen (onAck l t s)
-  on-ack seq nobody h = calm l.seen (only l t answer.stray) refl refl refl
-  on-ack seq (somebody b it f a) (one_shows among shown others) =
+  on_ack_law : (seq : ℕ) (s : Search Frame) → Looked (λ q. acknowledged_in seq q.state) l.live s → Acts l.seen (on_ack l t s)
+  on_ack_law seq nobody h = calm l.seen (only l t answer.stray) refl refl refl
+  on_ack_law seq (somebody b it f a) (one_shows among shown others) =
       by_test (λ w. it.wanted ≡ w → Acts l.seen (if w (receiving.moves l t (waiting t) b it a)
       (receiving.ends l t answer.no_word answer.acknowledged [] b it a))) it.wanted
       (λ w e. record { seen = refl; live = changes.Hears.waits b it a f among (acknowledged_state seq it.state shown) w refl refl })
       (λ w e. record { seen = refl; live = changes.Hears.acknowledged b it a f among (acknowledged_state seq it.state shown) w refl refl })
       refl
 
-  on-nak : (s : Search Frame) → Looked flies l.live s → Acts l.seen (onNak l t s)
-  on-nak nobody h = calm l.seen (only l t answer.stray) refl refl refl
-  on-nak (somebody b it f a) (one_shows among shown others) =
+  on_nak_law : (s : Search Frame) → Looked flies l.live s → Acts l.seen (on_nak l t s)
+  on_nak_law nobody h = calm l.seen (only l t answer.stray) refl refl refl
+  on_nak_law (somebody b it f a) (one_shows among shown others) =
       record { seen = refl; live = changes.Hears.marked b it a f among (flies_state it.state shown) refl refl }
 
-  on-response : (c : answer.Command) (bytes : List ℕ) (s : Search (Unit {0}))
-      → Looked (λ q. provided (matches c q) tt) l.live s → Acts l.seen (onResponse l t c bytes s)
-  on-response c bytes nobody h = calm l.seen (only l t (answer.unmatched c)) refl refl refl
-  on-response c bytes (somebody b it what a) (one_shows among shown others) =
+  on_response_law : (c : answer.Command) (bytes : List ℕ) (s : Search (Unit {0}))
+      → Looked (λ q. provided (matches c q) tt) l.live s → Acts l.seen (on_response l t c bytes s)
+  on_response_law c bytes nobody h = calm l.seen (only l t (answer.unmatched c)) refl refl refl
+  on_response_law c bytes (somebody b it what a) (one_shows among shown others) =
       let its = matched_state c it shown in
       record { seen = refl; live = changes.Hears.answered b it a among its.0 its.1 refl refl }
 
-  on-data : (payload : List ℕ) → Acts l.seen (onData l t payload)
-  unfolding onData
-  on-data payload =
+  on_data_law : (payload : List ℕ) → Acts l.seen (on_data l t payload)
+  unfolding on_data
+  on_data_law payload =
       let c = command_in payload in
-      let response = onResponse l t c (data_in payload) (oldest (λ q. provided (matches c q) tt) l.live) in
+      let response = on_response l t c (data_in payload) (oldest (λ q. provided (matches c q) tt) l.live) in
       let told : Act =
       record { word = answer.event c; reply = []; ending = none; bytes = data_in payload; seen = l.seen; live = l.live } in
       by_test (λ b. Acts l.seen (if b (only l t answer.not_command) (if (leb 1 c.rqid && leb c.rqid l.reserved) told response)))
@@ -138,47 +138,47 @@ module _ (l : Ledger) (t : ℕ) where
       (λ e. calm l.seen (only l t answer.not_command) refl refl refl)
       (λ e. by_test (λ b. Acts l.seen (if b told response)) (leb 1 c.rqid && leb c.rqid l.reserved)
       (λ e. calm l.seen told refl refl refl)
-      (λ e. on-response c (data_in payload) (oldest (λ q. provided (matches c q) tt) l.live)
+      (λ e. on_response_law c (data_in payload) (oldest (λ q. provided (matches c q) tt) l.live)
       (look (λ q. provided (matches c q) tt) l.live)))
 
   -- a repeat leaves the last SEQ, which is its own
-  same-last : (seen : Seen) (seq : ℕ) → is_repeat seen seq ≡ true → seen ≡ some seq
+  same_last : (seen : Seen) (seq : ℕ) → is_repeat seen seq ≡ true → seen ≡ some seq
   unfolding is_repeat
-  same-last none seq h = let z : ◌≡◌ {A = ℕ} 0 1 = cc in absurd (omega arith)
-  same-last (some last) seq h = ap some (eqb-true last seq h)
+  same_last none seq h = let z : ◌≡◌ {A = ℕ} 0 1 = cc in absurd (omega arith)
+  same_last (some last) seq h = ap some (eqb-true last seq h)
 
-  on-sequenced : (seq : ℕ) (payload : List ℕ) → Acts (some seq) (onSequenced l t seq payload)
+  on_sequenced_law : (seq : ℕ) (payload : List ℕ) → Acts (some seq) (on_sequenced l t seq payload)
   unfolding seen_after
-  on-sequenced seq payload =
-      let new = receiving.remembering (seen_after l.seen seq) (onData l t payload) in
+  on_sequenced_law seq payload =
+      let new = receiving.remembering (seen_after l.seen seq) (on_data l t payload) in
       by_test (λ b. Acts (some seq) (receiving.replying (receiving.ack_message seq) (if b (only l t answer.repeat) new)))
       (is_repeat l.seen seq)
-      (λ e. record { seen = same-last l.seen seq e; live = changes.Hears.nobody refl refl })
-      (λ e. record { seen = refl; live = (on-data payload).live })
+      (λ e. record { seen = same_last l.seen seq e; live = changes.Hears.nobody refl refl })
+      (λ e. record { seen = refl; live = (on_data_law payload).live })
 
-  on_message : (type seq : ℕ) (payload : List ℕ) → Acts (if (eqb type data_seq) (some seq) l.seen) (onMessage l t type seq payload)
-  unfolding onMessage
-  on_message type seq payload =
+  on_message_law : (type seq : ℕ) (payload : List ℕ) → Acts (if (eqb type data_seq) (some seq) l.seen) (on_message l t type seq payload)
+  unfolding on_message
+  on_message_law type seq payload =
       let acked = oldest (λ q. acknowledged_in seq q.state) l.live in
-      by_test (λ b. Acts (if (eqb type data_seq) (some seq) l.seen) (if b (onAck l t acked)
-      (if (eqb type nak) (onNak l t (oldest flies l.live)) (if (eqb type data_seq) (onSequenced l t seq payload) (onData l t payload)))))
+      by_test (λ b. Acts (if (eqb type data_seq) (some seq) l.seen) (if b (on_ack l t acked)
+      (if (eqb type nak) (on_nak l t (oldest flies l.live)) (if (eqb type data_seq) (on_sequenced l t seq payload) (on_data l t payload)))))
       (eqb type ack)
-      (λ e. rw (eqb-true type ack e) (on-ack seq acked (look (λ q. acknowledged_in seq q.state) l.live)))
-      (λ e. by_test (λ b. Acts (if (eqb type data_seq) (some seq) l.seen) (if b (onNak l t (oldest flies l.live))
-      (if (eqb type data_seq) (onSequenced l t seq payload) (onData l t payload))))
+      (λ e. rw (eqb-true type ack e) (on_ack_law seq acked (look (λ q. acknowledged_in seq q.state) l.live)))
+      (λ e. by_test (λ b. Acts (if (eqb type data_seq) (some seq) l.seen) (if b (on_nak l t (oldest flies l.live))
+      (if (eqb type data_seq) (on_sequenced l t seq payload) (on_data l t payload))))
       (eqb type nak)
-      (λ e. rw (eqb-true type nak e) (on-nak (oldest flies l.live) (look flies l.live)))
-      (λ e. by_test (λ b. Acts (if b (some seq) l.seen) (if b (onSequenced l t seq payload) (onData l t payload)))
+      (λ e. rw (eqb-true type nak e) (on_nak_law (oldest flies l.live) (look flies l.live)))
+      (λ e. by_test (λ b. Acts (if b (some seq) l.seen) (if b (on_sequenced l t seq payload) (on_data l t payload)))
       (eqb type data_seq)
-      (λ e. on-sequenced seq payload)
-      (λ e. on-data payload)))
+      (λ e. on_sequenced_law seq payload)
+      (λ e. on_data_law payload)))
 
-  on-item : (i : line.Answer) (payload : List ℕ) → Acts (last_seq_after i l.seen) (act l t i payload)
-  on-item more payload = calm l.seen (act l t more payload) refl refl refl
-  on-item (item damaged_header) payload = calm l.seen (act l t (item damaged_header) payload) refl refl refl
-  on-item (item forbidden) payload = calm l.seen (act l t (item forbidden) payload) refl refl refl
-  on-item (item damaged_payload) payload = calm l.seen (act l t (item damaged_payload) payload) refl refl refl
-  on-item (item (items.message type seq len)) payload = on_message type seq payload
+  on_item : (i : line.Answer) (payload : List ℕ) → Acts (last_seq_after i l.seen) (act l t i payload)
+  on_item more payload = calm l.seen (act l t more payload) refl refl refl
+  on_item (item damaged_header) payload = calm l.seen (act l t (item damaged_header) payload) refl refl refl
+  on_item (item forbidden) payload = calm l.seen (act l t (item forbidden) payload) refl refl refl
+  on_item (item damaged_payload) payload = calm l.seen (act l t (item damaged_payload) payload) refl refl refl
+  on_item (item (items.message type seq len)) payload = on_message_law type seq payload
 
 pub receive_changes : (limit : ℕ) (l : Ledger) (bytes reply buffer : List ℕ) (t : ℕ) (r : Receipt)
     → (step limit l (receive bytes reply buffer t)).answer ≡ received r
@@ -191,7 +191,7 @@ receive_changes limit l bytes reply buffer t r h = go (refusal limit l (receive 
     go (some n) h = let z : ◌≡◌ {A = ℕ} 0 1 = cc in absurd (omega arith)
     go none h =
         let got = line.receive l.held bytes in
-        let does = on-item l t got.answer got.payload in
+        let does = on_item l t got.answer got.payload in
         let same : r.item ≡ got.answer = cc in
         let named : (act l t got.answer got.payload).ending ≡ r.ending = cc in
         record {
@@ -227,12 +227,12 @@ module _ (l : Ledger) (t : ℕ) where
     acted : {p : Poll} {bytes : List ℕ} {next : ℕ} {live : List Request} → next ≡ next_seq_after p (flights l.live) l.next_seq
         → Moves t l.next_seq l.live live p → Acted (polling.does p bytes next live)
 
-  by-step4 : Acted (step4 l t)
-  by-step4 = acted refl (changes.Moves.nobody _ refl refl)
+  by_step4 : Acted (step4 l t)
+  by_step4 = acted refl (changes.Moves.nobody _ refl refl)
 
-  sends-first : flights l.live ≡ 0 → (b : List Request) (it : Request) (a : List Request) → l.live ≡ b ++ (it ∷ a)
+  sends_first : flights l.live ≡ 0 → (b : List Request) (it : Request) (a : List Request) → l.live ≡ b ++ (it ∷ a)
       → it.state ≡ queued → Acted (polling.sends l t (first_sent l.next_seq t) (seq_after l.next_seq) b it a)
-  sends-first free b it a among waits =
+  sends_first free b it a among waits =
       let p : Poll = sent (length (polling.frame_bytes it l.next_seq)) in
       acted {p = p} (ap (λ n. next_seq_after p n l.next_seq) (sym free)) (changes.Moves.first b it a among waits refl refl)
 
@@ -242,42 +242,42 @@ module _ (l : Ledger) (t : ℕ) where
       let p : Poll = sent (length (polling.frame_bytes it f.seq)) in
       acted {p = p} (ap (λ n. next_seq_after p n l.next_seq) (sym one)) (changes.Moves.again b it a f among flying refl refl)
 
-  by-step3 : (n : ℕ) → flights l.live ≡ n → (flight : Search Frame) → Count flight n → (queue : Search (Unit {0}))
+  by_step3 : (n : ℕ) → flights l.live ≡ n → (flight : Search Frame) → Count flight n → (queue : Search (Unit {0}))
       → Looked (λ q. queued_in q.state) l.live queue → Acted (or_else (step3 l t flight queue) (step4 l t))
-  by-step3 n same (somebody b it f a) h queue q = by-step4
-  by-step3 n same nobody h nobody q = by-step4
-  by-step3 n same nobody h (somebody b it what a) (one_shows among shown others) =
-      sends-first (same ∙ h) b it a among (queued_state it.state shown)
+  by_step3 n same (somebody b it f a) h queue q = by_step4
+  by_step3 n same nobody h nobody q = by_step4
+  by_step3 n same nobody h (somebody b it what a) (one_shows among shown others) =
+      sends_first (same ∙ h) b it a among (queued_state it.state shown)
 
-  by-step2 : (n : ℕ) → flights l.live ≡ n → (flight : Search Frame) → Count flight n → Looked flies l.live flight
+  by_step2 : (n : ℕ) → flights l.live ≡ n → (flight : Search Frame) → Count flight n → Looked flies l.live flight
       → (queue : Search (Unit {0})) → Looked (λ q. queued_in q.state) l.live queue
       → Acted (or_else (step2 l t flight) (or_else (step3 l t flight queue) (step4 l t)))
-  by-step2 n same nobody h f queue q = by-step3 n same nobody h queue q
-  by-step2 zero same (somebody b it f a) h (one_shows among shown others) queue q = absurd (omega arith)
-  by-step2 (suc n) same (somebody b it f a) h (one_shows among shown others) queue q =
+  by_step2 n same nobody h f queue q = by_step3 n same nobody h queue q
+  by_step2 zero same (somebody b it f a) h (one_shows among shown others) queue q = absurd (omega arith)
+  by_step2 (suc n) same (somebody b it f a) h (one_shows among shown others) queue q =
       let over = polling.ends l t answer.no_acknowledgement b it a in
       let again = polling.sends l t (sent_again f t) l.next_seq b it a in
       by_test (λ x. Acted (or_else (if x (some (if (may_go_again f) again over)) none) (step4 l t))) (due f t)
       (λ late. by_test (λ x. Acted (if x again over)) (may_go_again f)
       (λ may. sends_again n same b it a f among (flies_state it.state shown))
       (λ may. acted refl (changes.Moves.unacknowledged b it a f among (flies_state it.state shown) refl refl)))
-      (λ calm. by-step4)
+      (λ calm. by_step4)
 
-  by-step1 : (overdue : Search (Unit {0})) → Looked (λ q. overdue_in t q.state) l.live overdue
+  by_step1 : (overdue : Search (Unit {0})) → Looked (λ q. overdue_in t q.state) l.live overdue
       → (rest : polling.Act) → Acted rest → Acted (or_else (step1 l t overdue) rest)
-  by-step1 nobody h rest does = does
-  by-step1 (somebody b it what a) (one_shows among shown others) rest does =
+  by_step1 nobody h rest does = does
+  by_step1 (somebody b it what a) (one_shows among shown others) rest does =
       let its = overdue_state t it.state shown in
       acted refl (changes.Moves.unanswered b it a its.since among its.state refl refl)
 
-  by-steps : Acted (polling.act l t)
+  by_steps : Acted (polling.act l t)
   unfolding polling.act
-  by-steps =
+  by_steps =
       let flight = oldest flies l.live in
       let queue = oldest (λ q. queued_in q.state) l.live in
-      by-step1 (oldest (λ q. overdue_in t q.state) l.live) (look (λ q. overdue_in t q.state) l.live)
+      by_step1 (oldest (λ q. overdue_in t q.state) l.live) (look (λ q. overdue_in t q.state) l.live)
       (or_else (step2 l t flight) (or_else (step3 l t flight queue) (step4 l t)))
-      (by-step2 (flights l.live) refl flight (count l.live) (look flies l.live) queue (look (λ q. queued_in q.state) l.live))
+      (by_step2 (flights l.live) refl flight (count l.live) (look flies l.live) queue (look (λ q. queued_in q.state) l.live))
 
 pub poll_changes : (limit : ℕ) (l : Ledger) (output : List ℕ) (t : ℕ) (p : Poll)
     → (step limit l (poll output t)).answer ≡ polled p → PollChanges l t p (step limit l (poll output t)).next
@@ -301,7 +301,7 @@ poll_changes limit l output t p h = go (refusal limit l (poll output t)) h
     go : (o : Option ℕ) → (answers_to l (poll output t) o).answer ≡ polled p
         → PollChanges l t p (answers_to l (poll output t) o).next
     go (some n) h = let z : ◌≡◌ {A = ℕ} 0 1 = cc in absurd (omega arith)
-    go none h = accepted (polling.act l t) (by-steps l t) h
+    go none h = accepted (polling.act l t) (by_steps l t) h
 
 -- "ACK with the SEQ in flight: response wanted, it waits from this reading"
 not_acknowledged : (seq : ℕ) (b : List Request) → flights b ≡ 0 → All (λ q. acknowledged_in seq q.state ≡ none) b
@@ -316,8 +316,8 @@ not_acknowledged seq (q ∷ b) alone = (here q.state (omega arith), not_acknowle
 
 pub ack_waits : (l : Ledger) (t : ℕ) (b a : List Request) (q : Request) (f : Frame) (payload : List ℕ)
     → l.live ≡ b ++ (q ∷ a) → flights b ≡ 0 → q.state ≡ in_flight f → q.wanted ≡ true
-    → (onMessage l t ack f.seq payload).live ≡ b ++ (with_state (waiting t) q ∷ a)
-unfolding onMessage
+    → (on_message l t ack f.seq payload).live ≡ b ++ (with_state (waiting t) q ∷ a)
+unfolding on_message
 ack_waits l t b a q f payload among alone flying wanted =
     let shown : acknowledged_in f.seq q.state ≡ some f = rw (flying, eq-eqb f.seq f.seq refl) in
     rw (among, find_oldest (λ x. acknowledged_in f.seq x.state) b a q shown (not_acknowledged f.seq b alone), wanted)

@@ -93,43 +93,43 @@ module _ (l : Ledger) (clock : ℕ) where
   }
 
   -- ACK: "response wanted, it waits from this reading; otherwise it ends, *acknowledged*. Any other ACK: *stray*."
-  abbrev pub onAck : (acknowledged : Search Frame) → Act
-  onAck nobody = only stray
-  onAck (somebody before it f after) =
+  abbrev pub on_ack : (acknowledged : Search Frame) → Act
+  on_ack nobody = only stray
+  on_ack (somebody before it f after) =
       if it.wanted (moves (waiting clock) before it after) (ends no_word acknowledged [] before it after)
 
   -- "NAK: marks the frame in flight; none in flight: *stray*."
-  abbrev pub onNak : (flight : Search Frame) → Act
-  onNak nobody = only stray
-  onNak (somebody before it f after) = moves (in_flight (with_mark f)) before it after
+  abbrev pub on_nak : (flight : Search Frame) → Act
+  on_nak nobody = only stray
+  on_nak (somebody before it f after) = moves (in_flight (with_mark f)) before it after
 
   -- the request that matches: "it ends, *response*. Otherwise *unmatched*."
-  abbrev pub onResponse : Command → (bytes : List ℕ) (matching : Search (Unit {0})) → Act
-  onResponse c bytes nobody = only (unmatched c)
-  onResponse c bytes (somebody before it what after) = ends (answer.Word.response c) answer.Cause.response bytes before it after
+  abbrev pub on_response : Command → (bytes : List ℕ) (matching : Search (Unit {0})) → Act
+  on_response c bytes nobody = only (unmatched c)
+  on_response c bytes (somebody before it what after) = ends (answer.Word.response c) answer.Cause.response bytes before it after
 
   -- "Then: LEN under 8 or first byte not 0x80: *not a command*. RQID 1 to R: *event*." Then a response or *unmatched*
-  unfoldable pub onData : (payload : List ℕ) → Act
-  onData payload =
+  unfoldable pub on_data : (payload : List ℕ) → Act
+  on_data payload =
       let c = command_in payload in
       if (not (is_command payload)) (only not_command)
       (if (leb 1 c.rqid && leb c.rqid l.reserved)
       (record { word = event c; reply = []; ending = none; bytes = data_in payload; seen = l.seen; live = l.live })
-      (onResponse c (data_in payload) (oldest (λ q. provided (matches c q) tt) l.live)))
+      (on_response c (data_in payload) (oldest (λ q. provided (matches c q) tt) l.live)))
 
   -- "DATA_SEQ: reply ACK with its SEQ. If its SEQ equals the controller's last SEQ, item *repeat* and nothing more; otherwise that
   -- becomes the last SEQ."
-  abbrev pub onSequenced : (seq : ℕ) (payload : List ℕ) → Act
-  onSequenced seq payload =
-      replying (ack_message seq) (if (is_repeat l.seen seq) (only repeat) (remembering (seen_after l.seen seq) (onData payload)))
+  abbrev pub on_sequenced : (seq : ℕ) (payload : List ℕ) → Act
+  on_sequenced seq payload =
+      replying (ack_message seq) (if (is_repeat l.seen seq) (only repeat) (remembering (seen_after l.seen seq) (on_data payload)))
 
   -- a message by its TYPE; "DATA_NSQ: no reply, no comparison"
-  unfoldable pub onMessage : (type seq : ℕ) (payload : List ℕ) → Act
-  onMessage type seq payload =
-      if (eqb type ack) (onAck (oldest (λ q. acknowledged_in seq q.state) l.live))
-      (if (eqb type nak) (onNak (oldest flies l.live))
-      (if (eqb type data_seq) (onSequenced seq payload)
-      (onData payload)))
+  unfoldable pub on_message : (type seq : ℕ) (payload : List ℕ) → Act
+  on_message type seq payload =
+      if (eqb type ack) (on_ack (oldest (λ q. acknowledged_in seq q.state) l.live))
+      (if (eqb type nak) (on_nak (oldest flies l.live))
+      (if (eqb type data_seq) (on_sequenced seq payload)
+      (on_data payload)))
 
   -- an item: "Damaged header or payload: reply NAK, whatever TYPE the header shows (house). Forbidden: no reply."
   abbrev pub act : line.Answer → (payload : List ℕ) → Act
@@ -137,7 +137,7 @@ module _ (l : Ledger) (clock : ℕ) where
   act (item damaged_header) payload = replying nak_message (only no_word)
   act (item forbidden) payload = only no_word
   act (item damaged_payload) payload = replying nak_message (only no_word)
-  act (item (items.message type seq len)) payload = onMessage type seq payload
+  act (item (items.message type seq len)) payload = on_message type seq payload
 
 -- the same with the bytes of a call: "A reply .. stands at the front of its buffer; the rest is unchanged.", "Events and responses
 -- put their data at the front of the lent data buffer; no other item touches it."

@@ -29,17 +29,17 @@ module _ (held new : List ℕ) {i : Item} {d r : ℕ} (k : ℕ) (within : suc k 
   size_less : length (held ++ take k new) ≡ length held + k
   size_less = length-append held (take k new) ∙ ap (λ (n : ℕ). length held + n) (length-take-le k new (omega arith))
 
-  last-by : (b : Bool) → leb (d + reach i (drop d (held ++ take (suc k) new))) (length held + k) ≡ b
+  last_by : (b : Bool) → leb (d + reach i (drop d (held ++ take (suc k) new))) (length held + k) ≡ b
       → length held + k < d + reach i (drop d (held ++ take (suc k) new))
-  last-by false l = leb-false (d + reach i (drop d (held ++ take (suc k) new))) (length held + k) l
-  last-by true l =
+  last_by false l = leb-false (d + reach i (drop d (held ++ take (suc k) new))) (length held + k) l
+  last_by true l =
       let enough = leb-true (d + reach i (drop d (held ++ take (suc k) new))) (length held + k) l in
       let there = scan_less (held ++ take k new) (take 1 (drop k new)) {i = i} {d = d} {r = r} (rw one_less h)
       (rw (one_less, size_less) enough) in
       absurd (true≢false (sym (ap decides there) ∙ none))
 
-  last-needed : length held + k < d + reach i (drop d (held ++ take (suc k) new))
-  last-needed = last-by (leb (d + reach i (drop d (held ++ take (suc k) new))) (length held + k)) refl
+  last_needed : length held + k < d + reach i (drop d (held ++ take (suc k) new))
+  last_needed = last_by (leb (d + reach i (drop d (held ++ take (suc k) new))) (length held + k)) refl
 
 -- so no more is held than the limit, where no more was
 item_bounded : (held new : List ℕ) {i : Item} {d r : ℕ} (k : ℕ) → length held ≤ held_max → k ≤ length new
@@ -49,7 +49,7 @@ item_bounded held new {i} {d} {r} zero few within h none =
     rw (length-drop (d + r) (held ++ take 0 new), length-append held (take 0 new)) (omega arith)
 item_bounded held new {i} {d} {r} (suc k) few within h none =
     let b = reached (held ++ take (suc k) new) h in
-    let l = last-needed held new {i = i} {d = d} {r = r} k within h (none k (omega arith)) in
+    let l = last_needed held new {i = i} {d = d} {r = r} k within h (none k (omega arith)) in
     let w = scan_within (held ++ take (suc k) new) h in
     rw (length-drop (d + r) (held ++ take (suc k) new), length-append held (take (suc k) new), length-take-le (suc k) new within)
     (omega (arith, b.longest, l, w))
@@ -77,12 +77,12 @@ all_split held piece t =
 
 module _ (n : ℕ) (again : (held piece : List ℕ) → size held piece < n
     → held ++ piece ≡ went_in n held piece ++ (handed_in n held piece).held) where
-  accounts-by : (held piece : List ℕ) → Got held piece → size held piece < suc n
+  accounts_by : (held piece : List ℕ) → Got held piece → size held piece < suc n
       → held ++ piece ≡ went_in (suc n) held piece ++ (handed_in (suc n) held piece).held
   unfolding went_in handed_in
-  accounts-by held piece (got_more {e} h got-it) few =
+  accounts_by held piece (got_more {e} h got-it) few =
       rw (got-it, take-length piece, h, append-nil (take e (held ++ piece))) (sym (take-append-drop e (held ++ piece)))
-  accounts-by held piece (got_item {i} {d} {r} t within h none got-it) few =
+  accounts_by held piece (got_item {i} {d} {r} t within h none got-it) few =
       let looked = held ++ take t piece in
       let shrinks = item_shrinks held piece t within h in
       let rest = again (drop (d + r) looked) (drop t piece) (omega arith) in
@@ -96,7 +96,7 @@ module _ (n : ℕ) (again : (held piece : List ℕ) → size held piece < n
 accounts_within : (n : ℕ) (held piece : List ℕ) → size held piece < n
     → held ++ piece ≡ went_in n held piece ++ (handed_in n held piece).held
 accounts_within zero held piece few = absurd (omega arith)
-accounts_within (suc n) held piece few = accounts-by n (accounts_within n) held piece (got held piece) few
+accounts_within (suc n) held piece few = accounts_by n (accounts_within n) held piece (got held piece) few
 
 pub handed_accounts : (held piece : List ℕ) → held ++ piece ≡ went held piece ++ (handed held piece).held
 unfolding went handed

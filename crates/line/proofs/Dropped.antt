@@ -31,16 +31,16 @@ left_receives held new h = rw (undecided_left held h).0 (receive_dropped held ne
 
 module _ (count d : ℕ) (array : List ℕ) (size : length array ≡ held_max) (within : count ≤ held_max)
     (none : scan (take count array) ≡ undecided d) where
-  length-held : length (take count array) ≡ count
-  length-held = length-take-le count array (omega arith)
+  length_held : length (take count array) ≡ count
+  length_held = length-take-le count array (omega arith)
 
   pub drops : d ≤ count
-  drops = omega (arith, undecided_left (take count array) none, dropped_within (take count array), length-held)
+  drops = omega (arith, undecided_left (take count array) none, dropped_within (take count array), length_held)
 
   -- nothing is left
   pub all_dropped : (new : List ℕ) → count ≡ d → receive (take count array) new ≡ receive [] new
   all_dropped new same =
-      rw (drop_of_length-le (take count array) {i = d} (omega (arith, length-held))) at (left_receives (take count array) new none)
+      rw (drop_of_length-le (take count array) {i = d} (omega (arith, length_held))) at (left_receives (take count array) new none)
 
   -- some are left
   module _ (kept : ℕ) (sum : d + kept ≡ count) where

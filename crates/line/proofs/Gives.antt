@@ -61,13 +61,13 @@ part (suc p) n (suc c) (x ∷ l) within = part p n c l (omega arith)
 
 -- an item of bytes that stand at the front
 module _ (array xs : List ℕ) (stands : take (length xs) array ≡ xs) where
-  payload-in : (i : Item) (n r : ℕ) (new : List ℕ) → scan xs ≡ decided (item_of i) n r
+  payload_in : (i : Item) (n r : ℕ) (new : List ℕ) → scan xs ≡ decided (item_of i) n r
       → part_of (One i) (Held (n + header_length)) array new ≡ payload_of xs
   unfolding payload_of
-  payload-in DamagedHeader n r new h = rw h
-  payload-in Forbidden n r new h = rw h
-  payload-in DamagedPayload n r new h = rw h
-  payload-in (Message t q len) n r new h =
+  payload_in DamagedHeader n r new h = rw h
+  payload_in Forbidden n r new h = rw h
+  payload_in DamagedPayload n r new h = rw h
+  payload_in (Message t q len) n r new h =
       let m = message_at xs h in
       rw (h, ← stands)
       (sym (part (n + header_length) len (length xs) array (omega (arith, length-drop (dropped xs) xs, dropped_within xs))))
@@ -91,7 +91,7 @@ module _ (array xs : List ℕ) (stands : take (length xs) array ≡ xs) where
           got,
           left_in d.start d.count said.3,
           said.2,
-          payload-in i n r new h,
+          payload_in i n r new h,
           h,
         );
     within = omega (arith, said.3);

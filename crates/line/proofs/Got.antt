@@ -29,10 +29,10 @@ module _ (held new : List ℕ) where
   abbrev test : ℕ → Bool
   test k = decides (scan (held ++ take k new))
 
-  got-by : (k : ℕ) → k ≤ length new → (k < length new → test k ≡ true) → ((j : ℕ) → j < k → test j ≡ false)
+  got_by : (k : ℕ) → k ≤ length new → (k < length new → test k ≡ true) → ((j : ℕ) → j < k → test j ≡ false)
       → (s : Scan) → scan (held ++ take k new) ≡ s → Got held new
-  got-by k within here none (decided i d r) h = got_item k within h none (receive_at held new k within here none)
-  got-by k within here none (undecided e) h = at_end (ltb k (length new)) refl where
+  got_by k within here none (decided i d r) h = got_item k within h none (receive_at held new k within here none)
+  got_by k within here none (undecided e) h = at_end (ltb k (length new)) refl where
     at_end : (b : Bool) → ltb k (length new) ≡ b → Got held new
     at_end true l = absurd (true≢false (sym (here (ltb-true k (length new) l)) ∙ ap decides h))
     at_end false l =
@@ -43,7 +43,7 @@ module _ (held new : List ℕ) where
   pub got : Got held new
   got =
       let s = told test 0 (length new) in
-      got-by s.past s.within (λ h. rw (zero-add s.past) at (s.here h)) (λ j h. rw (zero-add j) at (s.none j h))
+      got_by s.past s.within (λ h. rw (zero-add s.past) at (s.here h)) (λ j h. rw (zero-add j) at (s.none j h))
       (scan (held ++ take s.past new)) refl
 
 -- fewer bytes than a call takes decide nothing

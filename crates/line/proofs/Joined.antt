@@ -53,37 +53,37 @@ module _ (xs ys : List ℕ) where
   abbrev rest : List ℕ
   rest = drop (dropped xs) xs ++ ys
 
-  drop-joined : (n : ℕ) → drop (dropped xs + n) (xs ++ ys) ≡ drop n rest
-  drop-joined n = sym (drop-drop n (dropped xs) (xs ++ ys)) ∙ ap (drop n) (drop-append-le (dropped xs) xs ys (dropped_within xs))
+  drop_joined : (n : ℕ) → drop (dropped xs + n) (xs ++ ys) ≡ drop n rest
+  drop_joined n = sym (drop-drop n (dropped xs) (xs ++ ys)) ∙ ap (drop n) (drop-append-le (dropped xs) xs ys (dropped_within xs))
 
-  scan-by : (e : ℕ) → e ≡ dropped rest → dropped (xs ++ ys) ≡ dropped xs + e → scan (xs ++ ys) ≡ later (dropped xs) (scan rest)
+  scan_by : (e : ℕ) → e ≡ dropped rest → dropped (xs ++ ys) ≡ dropped xs + e → scan (xs ++ ys) ≡ later (dropped xs) (scan rest)
   unfolding scan
-  scan-by e h sum = rw (sum, drop-joined e, rules_later (dropped xs) e (drop e rest), h)
+  scan_by e h sum = rw (sum, drop_joined e, rules_later (dropped xs) e (drop e rest), h)
 
   pub scan_joined : scan (xs ++ ys) ≡ later (dropped xs) (scan rest)
-  scan_joined = scan-by (dropped rest) refl (dropped_joined xs ys)
+  scan_joined = scan_by (dropped rest) refl (dropped_joined xs ys)
 
 -- so a call's answer, payload and held bytes are the same
 module _ (d : ℕ) (xs ys : List ℕ) (same : (n : ℕ) → drop (d + n) xs ≡ drop n ys) where
-  answered-later : (s : Scan) → answered (later d s) ≡ answered s
-  answered-later (undecided n) = refl
-  answered-later (decided i n r) = refl
+  answered_later : (s : Scan) → answered (later d s) ≡ answered s
+  answered_later (undecided n) = refl
+  answered_later (decided i n r) = refl
 
-  left-later : (s : Scan) → left (later d s) xs ≡ left s ys
-  left-later (undecided n) = same n
-  left-later (decided i n r) = let sum : d + n + r ≡ d + (n + r) = omega arith in rw sum (same (n + r))
+  left_later : (s : Scan) → left (later d s) xs ≡ left s ys
+  left_later (undecided n) = same n
+  left_later (decided i n r) = let sum : d + n + r ≡ d + (n + r) = omega arith in rw sum (same (n + r))
 
-  part-later : (s : Scan) → part_with (later d s) xs ≡ part_with s ys
-  part-later (undecided n) = refl
-  part-later (decided damaged_header n r) = refl
-  part-later (decided forbidden n r) = refl
-  part-later (decided damaged_payload n r) = refl
-  part-later (decided (message t q len) n r) =
+  part_later : (s : Scan) → part_with (later d s) xs ≡ part_with s ys
+  part_later (undecided n) = refl
+  part_later (decided damaged_header n r) = refl
+  part_later (decided forbidden n r) = refl
+  part_later (decided damaged_payload n r) = refl
+  part_later (decided (message t q len) n r) =
       let sum : d + n + header_length ≡ d + (n + header_length) = omega arith in rw (sum, same (n + header_length))
 
-  received-later : scan xs ≡ later d (scan ys) → (n : ℕ) → received_from xs n ≡ received_from ys n
+  received_later : scan xs ≡ later d (scan ys) → (n : ℕ) → received_from xs n ≡ received_from ys n
   unfolding payload_of
-  received-later h n = rw (h, answered-later (scan ys), left-later (scan ys), part-later (scan ys))
+  received_later h n = rw (h, answered_later (scan ys), left_later (scan ys), part_later (scan ys))
 
 decides_later : (d : ℕ) (s : Scan) → decides (later d s) ≡ decides s
 decides_later d (undecided n) = refl
@@ -94,7 +94,7 @@ decides_joined xs ys = ap decides (scan_joined xs ys) ∙ decides_later (dropped
 
 pub received_joined : (xs ys : List ℕ) (n : ℕ) → received_from (xs ++ ys) n ≡ received_from (drop (dropped xs) xs ++ ys) n
 received_joined xs ys n =
-    received-later (dropped xs) (xs ++ ys) (drop (dropped xs) xs ++ ys) (drop-joined xs ys) (scan_joined xs ys) n
+    received_later (dropped xs) (xs ++ ys) (drop (dropped xs) xs ++ ys) (drop_joined xs ys) (scan_joined xs ys) n
 
 one : (n : ℕ) → 1 + n ≡ suc n
 one n = omega arith
@@ -108,4 +108,4 @@ pub decides_behind : (x : ℕ) (ys : List ℕ) → stands (x ∷ ys) ≡ false �
 decides_behind x ys h = ap decides (scan_behind x ys h) ∙ decides_later 1 (scan ys)
 
 pub received_behind : (x : ℕ) (ys : List ℕ) (n : ℕ) → stands (x ∷ ys) ≡ false → received_from (x ∷ ys) n ≡ received_from ys n
-received_behind x ys n h = received-later 1 (x ∷ ys) ys (λ k. rw (one k)) (scan_behind x ys h) n
+received_behind x ys n h = received_later 1 (x ∷ ys) ys (λ k. rw (one k)) (scan_behind x ys h) n

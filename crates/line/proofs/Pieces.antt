@@ -28,8 +28,8 @@ module _ (type seq : ℕ) (payload first second : List ℕ) (fine : allowed type
   lengths : length first + length second ≡ total (length payload)
   lengths = sym (length-append first second) ∙ ap length cut ∙ length_message type seq payload
 
-  both-decide : scan (first ++ second) ≡ decided (items.message type seq (length payload)) 0 (total (length payload))
-  both-decide = rw (cut, ← append-nil (message type seq payload)) (scan_message type seq payload [] fine)
+  both_decide : scan (first ++ second) ≡ decided (items.message type seq (length payload)) 0 (total (length payload))
+  both_decide = rw (cut, ← append-nil (message type seq payload)) (scan_message type seq payload [] fine)
 
   both_hold : payload_of (first ++ second) ≡ payload
   both_hold = rw (cut, ← append-nil (message type seq payload)) (payload_of_message type seq payload [] fine)
@@ -39,10 +39,10 @@ module _ (type seq : ℕ) (payload first second : List ℕ) (fine : allowed type
       ≡ record { answer = item (items.message type seq (length payload)); payload = payload; taken = length second; held = [] }
   last_piece =
       let all = lengths in
-      at_item first second (length second) {i = items.message type seq (length payload)} {d = 0} {r = total (length payload)} (omega arith) (rw (take-length second) both-decide) (omega arith)
+      at_item first second (length second) {i = items.message type seq (length payload)} {d = 0} {r = total (length payload)} (omega arith) (rw (take-length second) both_decide) (omega arith)
       ∙ rw (
         take-length second,
-        both-decide,
+        both_decide,
         both_hold,
         drop_of_length-le (first ++ second) {i = 0 + total (length payload)}
             (omega (arith, length-append first second)),
@@ -52,10 +52,10 @@ module _ (type seq : ℕ) (payload first second : List ℕ) (fine : allowed type
   module _ (some : 0 < length second) where
     waits : (s : Scan) → scan first ≡ s → scan first ≡ undecided 0
     waits (undecided e) h =
-        let none = dropped_none (scan (drop (dropped first) first ++ second)) (sym both-decide ∙ scan_joined first second) in
+        let none = dropped_none (scan (drop (dropped first) first ++ second)) (sym both_decide ∙ scan_joined first second) in
         h ∙ ap undecided ((undecided_left first h).0 ∙ none)
     waits (decided i d r) h =
-        let all = lengths in absurd (true≢false (sym (ap decides h) ∙ scan_fewer first second both-decide (omega arith)))
+        let all = lengths in absurd (true≢false (sym (ap decides h) ∙ scan_fewer first second both_decide (omega arith)))
 
     pub first_piece : receive [] first ≡ record { answer = more; payload = []; taken = length first; held = first }
     unfolding payload_of

@@ -71,19 +71,19 @@ reach_within xs {i} {d} h =
 
 -- the first bytes ps of ps ++ ws: where they hold it, they decide the same
 module _ (n : ℕ) (ps ws : List ℕ) where
-  rules-less : {i : Item} {d r : ℕ} (s : Scan) → Applied n (ps ++ ws) s → s ≡ decided i d r → reach i (ps ++ ws) ≤ length ps
+  rules_less : {i : Item} {d r : ℕ} (s : Scan) → Applied n (ps ++ ws) s → s ≡ decided i d r → reach i (ps ++ ws) ≤ length ps
       → rules n ps ≡ s
-  rules-less s (by_1 short e) h enough = let z : ◌≡◌ {A = ℕ} 0 1 = cc in absurd (omega arith)
-  rules-less {i} s (by_2 long bad e) h enough =
+  rules_less s (by_1 short e) h enough = let z : ◌≡◌ {A = ℕ} 0 1 = cc in absurd (omega arith)
+  rules_less {i} s (by_2 long bad e) h enough =
       let same : i ≡ damaged_header = cc in
       let hold : header_length ≤ length ps = rw same at enough in
       rw e (rule_2 n ps hold (sym (sound_more ps ws hold) ∙ bad))
-  rules-less {i} s (by_3 long sound bad e) h enough =
+  rules_less {i} s (by_3 long sound bad e) h enough =
       let same : i ≡ forbidden = cc in
       let hold : header_length ≤ length ps = rw same at enough in
       rw e (rule_3 n ps hold (sym (sound_more ps ws hold) ∙ sound) (sym (allowed_more ps ws hold) ∙ bad))
-  rules-less s (by_4 long sound fine short e) h enough = let z : ◌≡◌ {A = ℕ} 0 1 = cc in absurd (omega arith)
-  rules-less {i} s (by_5 long sound fine whole bad e) h enough =
+  rules_less s (by_4 long sound fine short e) h enough = let z : ◌≡◌ {A = ℕ} 0 1 = cc in absurd (omega arith)
+  rules_less {i} s (by_5 long sound fine whole bad e) h enough =
       let same : i ≡ damaged_payload = cc in
       let all : total (len_in (ps ++ ws)) ≤ length ps = rw same at enough in
       let hold : header_length ≤ length ps = omega arith in
@@ -92,7 +92,7 @@ module _ (n : ℕ) (ps ws : List ℕ) where
       rw e
       (rule_5 n ps hold (sym (sound_more ps ws hold) ∙ sound) (sym (allowed_more ps ws hold) ∙ fine) whole
       (sym (good_more ps ws hold whole) ∙ bad))
-  rules-less {i} s (by_6 long sound fine whole good e) h enough =
+  rules_less {i} s (by_6 long sound fine whole good e) h enough =
       let same : i ≡ message (type_in (ps ++ ws)) (seq_in (ps ++ ws)) (len_in (ps ++ ws)) = cc in
       let all : total (len_in (ps ++ ws)) ≤ length ps = rw same at enough in
       let hold : header_length ≤ length ps = omega arith in
@@ -115,7 +115,7 @@ dropped_less ps ws two = dropped_first (leb 2 (length (drop (dropped ps) ps))) p
 
 at_rules : (n : ℕ) (ps ws : List ℕ) {i : Item} {d r : ℕ} → rules n (ps ++ ws) ≡ decided i d r → reach i (ps ++ ws) ≤ length ps
     → rules n ps ≡ decided i d r
-at_rules n ps ws h enough = rules-less n ps ws (rules n (ps ++ ws)) (applied n (ps ++ ws)) h enough ∙ h
+at_rules n ps ws h enough = rules_less n ps ws (rules n (ps ++ ws)) (applied n (ps ++ ws)) h enough ∙ h
 
 reach_more : (i : Item) (xs ys : List ℕ) → header_length ≤ length xs → reach i (xs ++ ys) ≡ reach i xs
 reach_more damaged_header xs ys long = refl

@@ -117,10 +117,10 @@ decides_short xs short =
 
 -- a byte that is no SYN with the next one plays no part
 module _ (x y : ℕ) (ys : List ℕ) (no : stands (x ∷ y ∷ []) ≡ false) where
-  decides-lone : (k : ℕ) → decides (scan (x ∷ take k (y ∷ ys))) ≡ decides (scan (take k (y ∷ ys)))
+  decides_lone : (k : ℕ) → decides (scan (x ∷ take k (y ∷ ys))) ≡ decides (scan (take k (y ∷ ys)))
   unfolding stands
-  decides-lone zero = decides_short (x ∷ []) (omega arith) ∙ sym (decides_short [] (omega arith))
-  decides-lone (suc k) = decides_behind x (y ∷ take k ys) no
+  decides_lone zero = decides_short (x ∷ []) (omega arith) ∙ sym (decides_short [] (omega arith))
+  decides_lone (suc k) = decides_behind x (y ∷ take k ys) no
 
   some : taken [] (y ∷ ys) ≡ 0 → ⊥
   unfolding taken smallest
@@ -128,14 +128,14 @@ module _ (x y : ℕ) (ys : List ℕ) (no : stands (x ∷ y ∷ []) ≡ false) wh
       let t = told (λ k. decides (scan (take k (y ∷ ys)))) 1 (length ys) in
       absurd (omega (arith, t.at, rw (decides_short [] (omega arith)) at none))
 
-  received-lone : (t : ℕ) → (t ≡ 0 → ⊥) → received_from (x ∷ take t (y ∷ ys)) t ≡ received_from (take t (y ∷ ys)) t
+  received_lone : (t : ℕ) → (t ≡ 0 → ⊥) → received_from (x ∷ take t (y ∷ ys)) t ≡ received_from (take t (y ∷ ys)) t
   unfolding stands
-  received-lone zero h = absurd (h refl)
-  received-lone (suc k) h = received_behind x (y ∷ take k ys) (suc k) no
+  received_lone zero h = absurd (h refl)
+  received_lone (suc k) h = received_behind x (y ∷ take k ys) (suc k) no
 
   pub receive_lone : receive (x ∷ []) (y ∷ ys) ≡ receive [] (y ∷ ys)
   unfolding receive taken
   receive_lone =
       rw (smallest_same (λ k. decides (scan (x ∷ take k (y ∷ ys)))) (λ k. decides (scan (take k (y ∷ ys)))) 0
-      (length (y ∷ ys)) decides-lone)
-      (received-lone (taken [] (y ∷ ys)) some)
+      (length (y ∷ ys)) decides_lone)
+      (received_lone (taken [] (y ∷ ys)) some)

@@ -37,17 +37,17 @@ pub waiting : (xs : List ℕ) → dropped xs ≡ 0 → scan xs ≡ undecided 0 �
 waiting xs none h long = waiting_by 0 xs (rules 0 xs) (applied 0 xs) (sym (front_rules xs none) ∙ h) long none
 
 module _ (xs ys : List ℕ) (w : Waiting xs) (long : header_length ≤ length xs) where
-  front-more : dropped (xs ++ ys) ≡ 0
-  front-more = dropped_more xs ys (rw w.front (omega arith)) ∙ w.front
+  front_more : dropped (xs ++ ys) ≡ 0
+  front_more = dropped_more xs ys (rw w.front (omega arith)) ∙ w.front
 
-  more-long : header_length ≤ length (xs ++ ys)
-  more-long = rw (length-append xs ys) (omega arith)
+  more_long : header_length ≤ length (xs ++ ys)
+  more_long = rw (length-append xs ys) (omega arith)
 
   -- more bytes, but not all of the message
   pub still_waiting : length (xs ++ ys) < total (len_in xs) → scan (xs ++ ys) ≡ undecided 0
   still_waiting short =
-      front_rules (xs ++ ys) front-more
-      ∙ rule_4 0 (xs ++ ys) more-long (sound_more xs ys long ∙ w.sound) (allowed_more xs ys long ∙ w.fine)
+      front_rules (xs ++ ys) front_more
+      ∙ rule_4 0 (xs ++ ys) more_long (sound_more xs ys long ∙ w.sound) (allowed_more xs ys long ∙ w.fine)
       (rw (len_more xs ys long) short)
 
   -- the whole message
@@ -58,20 +58,20 @@ module _ (xs ys : List ℕ) (w : Waiting xs) (long : header_length ≤ length xs
     pub whole_damaged : eqb (payload_checksum_in (xs ++ ys)) (checksum_of (payload_in (xs ++ ys))) ≡ false
         → scan (xs ++ ys) ≡ decided damaged_payload 0 2
     whole_damaged bad =
-        front_rules (xs ++ ys) front-more
-        ∙ rule_5 0 (xs ++ ys) more-long (sound_more xs ys long ∙ w.sound) (allowed_more xs ys long ∙ w.fine) enough bad
+        front_rules (xs ++ ys) front_more
+        ∙ rule_5 0 (xs ++ ys) more_long (sound_more xs ys long ∙ w.sound) (allowed_more xs ys long ∙ w.fine) enough bad
 
     pub whole_message : eqb (payload_checksum_in (xs ++ ys)) (checksum_of (payload_in (xs ++ ys))) ≡ true
         → scan (xs ++ ys) ≡ decided (message (type_in xs) (seq_in xs) (len_in xs)) 0 (total (len_in xs))
     whole_message good =
-        front_rules (xs ++ ys) front-more
+        front_rules (xs ++ ys) front_more
         ∙ rw (← type_more xs ys long, ← seq_more xs ys long, ← len_more xs ys long)
-        (rule_6 0 (xs ++ ys) more-long (sound_more xs ys long ∙ w.sound) (allowed_more xs ys long ∙ w.fine) enough good)
+        (rule_6 0 (xs ++ ys) more_long (sound_more xs ys long ∙ w.sound) (allowed_more xs ys long ∙ w.fine) enough good)
 
 -- the bytes behind SYN, with anything after them: payload and checksum are read six bytes on
 module _ (ms ts : List ℕ) (n : ℕ) (size : length ms ≡ total n) where
-  from-6 : drop 6 (drop 2 ms ++ ts) ≡ drop header_length ms ++ ts
-  from-6 =
+  from_6 : drop 6 (drop 2 ms ++ ts) ≡ drop header_length ms ++ ts
+  from_6 =
       drop-append-le 6 (drop 2 ms) ts (rw (length-drop 2 ms) (omega arith))
       ∙ ap (λ (l : List ℕ). l ++ ts) (drop-drop 6 2 ms)
 
@@ -79,7 +79,7 @@ module _ (ms ts : List ℕ) (n : ℕ) (size : length ms ≡ total n) where
   behind = rw (length-drop header_length ms) (omega arith)
 
   pub payload_behind : take n (drop 6 (drop 2 ms ++ ts)) ≡ take n (drop header_length ms)
-  payload_behind = rw from-6 (take-append-le n (drop header_length ms) ts (omega (arith, behind)))
+  payload_behind = rw from_6 (take-append-le n (drop header_length ms) ts (omega (arith, behind)))
 
   pub checksum_behind : n ≡ len_in ms
       → eqb (from_le16 (get_or (drop 6 (drop 2 ms ++ ts)) n 0) (get_or (drop 6 (drop 2 ms ++ ts)) (n + 1) 0))
@@ -89,7 +89,7 @@ module _ (ms ts : List ℕ) (n : ℕ) (size : length ms ≡ total n) where
       let next : header_length + (n + 1) ≡ header_length + n + 1 = omega arith in
       rw (
         payload_behind,
-        from-6,
+        from_6,
         get_or-append (drop header_length ms) ts 0 n (omega (arith, behind)),
         get_or-append (drop header_length ms) ts 0 (n + 1) (omega (arith, behind)),
         get_or-drop header_length ms n 0,

@@ -38,24 +38,24 @@ module _ (kept : ℕ) (held new : List ℕ) (size : length held ≡ kept) (long 
   abbrev rest : List ℕ
   rest = drop first new
 
-  size-first : length (take first new) ≡ first
-  size-first = length-take-le first new (omega arith)
+  size_first : length (take first new) ≡ first
+  size_first = length-take-le first new (omega arith)
 
-  size-there : length there ≡ kept + first
-  size-there = length-append held (take first new) ∙ rw (size-first, size)
+  size_there : length there ≡ kept + first
+  size_there = length-append held (take first new) ∙ rw (size_first, size)
 
-  long-there : header_length ≤ length there
-  long-there = omega (arith, size-there)
+  long_there : header_length ≤ length there
+  long_there = omega (arith, size_there)
 
   waits : Waiting there
-  waits = waiting there (sym (undecided_left there none).0) none long-there
+  waits = waiting there (sym (undecided_left there none).0) none long_there
 
   -- the message is longer than the held bytes, and not longer than the longest one
   pub waits_for : (kept + first < total (len_in there)) × (total (len_in there) ≤ held_max + 1)
-  waits_for = omega (arith, size-there, waits.short, allowed_short (type_in there) (len_in there) waits.fine)
+  waits_for = omega (arith, size_there, waits.short, allowed_short (type_in there) (len_in there) waits.fine)
 
-  with-more : (m : ℕ) → held ++ take (first + m) new ≡ there ++ take m rest
-  with-more m =
+  with_more : (m : ℕ) → held ++ take (first + m) new ≡ there ++ take m rest
+  with_more m =
       ap (λ (l : List ℕ). held ++ l) (take-add first m new) ∙ sym (append_assoc held (take first new) (take m rest))
 
   with_all : held ++ new ≡ there ++ rest
@@ -66,7 +66,7 @@ module _ (kept : ℕ) (held new : List ℕ) (size : length held ≡ kept) (long 
   pub all_waits : kept + length new < total (len_in there) → scan (held ++ new) ≡ undecided 0
   all_waits short =
       let sum : length (there ++ rest) ≡ kept + length new = rw (← with_all) (length-append held new ∙ rw size) in
-      rw with_all (still_waiting there rest waits long-there (omega arith))
+      rw with_all (still_waiting there rest waits long_there (omega arith))
 
   -- all of it, with need new bytes; without its SYN it stands at the front
   module _ (need : ℕ) (whole : kept + need ≡ total (len_in there)) (enough : need ≤ length new) (array exit : List ℕ)
@@ -80,32 +80,32 @@ module _ (kept : ℕ) (held new : List ℕ) (size : length held ≡ kept) (long 
     parts : ms ≡ there ++ take m rest
     parts =
         let sum : first + m ≡ need = omega (arith, waits_for) in
-        rw sum at (with-more m)
+        rw sum at (with_more m)
 
-    size-ms : length ms ≡ total (len_in there)
-    size-ms = length-append held (take need new) ∙ rw (length-take-le need new enough, size) whole
+    size_ms : length ms ≡ total (len_in there)
+    size_ms = length-append held (take need new) ∙ rw (length-take-le need new enough, size) whole
 
-    size-parts : length (there ++ take m rest) ≡ total (len_in there)
-    size-parts = rw (← parts) size-ms
+    size_parts : length (there ++ take m rest) ≡ total (len_in there)
+    size_parts = rw (← parts) size_ms
 
-    len-ms : len_in ms ≡ len_in there
-    len-ms = rw parts (len_more there (take m rest) long-there)
+    len_ms : len_in ms ≡ len_in there
+    len_ms = rw parts (len_more there (take m rest) long_there)
 
-    type-ms : type_in ms ≡ type_in there
-    type-ms = rw parts (type_more there (take m rest) long-there)
+    type_ms : type_in ms ≡ type_in there
+    type_ms = rw parts (type_more there (take m rest) long_there)
 
-    seq-ms : seq_in ms ≡ seq_in there
-    seq-ms = rw parts (seq_more there (take m rest) long-there)
+    seq_ms : seq_in ms ≡ seq_in there
+    seq_ms = rw parts (seq_more there (take m rest) long_there)
 
-    exit-is : exit ≡ drop 2 ms ++ drop (length (drop 2 ms)) array
-    exit-is = stands ∙ sym (front (drop 2 ms) array)
+    exit_is : exit ≡ drop 2 ms ++ drop (length (drop 2 ms)) array
+    exit_is = stands ∙ sym (front (drop 2 ms) array)
 
-    byte-is : (i : ℕ) → i < 8 → get_or exit i 0 ≡ get_or ms (2 + i) 0
-    byte-is i small =
+    byte_is : (i : ℕ) → i < 8 → get_or exit i 0 ≡ get_or ms (2 + i) 0
+    byte_is i small =
         rw (
-          exit-is,
+          exit_is,
           get_or-append (drop 2 ms) (drop (length (drop 2 ms)) array) 0 i
-              (rw (length-drop 2 ms, size-ms) (omega arith)),
+              (rw (length-drop 2 ms, size_ms) (omega arith)),
         )
         (get_or-drop 2 ms i 0)
 
@@ -114,12 +114,12 @@ module _ (kept : ℕ) (held new : List ℕ) (size : length held ≡ kept) (long 
         → eqb (from_le16 (get_or (lent_from 6 exit) n 0) (get_or (lent_from 6 exit) (n + 1) 0)) (checksum_of (take n (lent_from 6 exit)))
         ≡ eqb (payload_checksum_in ms) (checksum_of (payload_in ms))
     compared n len =
-        rw (tail 6 exit, exit-is)
-        (checksum_behind ms (drop (length (drop 2 ms)) array) n (size-ms ∙ ap total (sym len)) (len ∙ sym len-ms))
+        rw (tail 6 exit, exit_is)
+        (checksum_behind ms (drop (length (drop 2 ms)) array) n (size_ms ∙ ap total (sym len)) (len ∙ sym len_ms))
 
-    item-is : {i : Item} {r : ℕ} → scan ms ≡ decided i 0 r → reach i ms ≡ total (len_in there) → receive held new
+    item_is : {i : Item} {r : ℕ} → scan ms ≡ decided i 0 r → reach i ms ≡ total (len_in there) → receive held new
         ≡ received_from ms need
-    item-is {i} {r} h reaches = at_item held new need {i = i} {d = 0} {r = r} enough h (rw reaches (omega arith))
+    item_is {i} {r} h reaches = at_item held new need {i = i} {d = 0} {r = r} enough h (rw reaches (omega arith))
 
     pub gives_message : (d : Decision) (t n : ℕ) (q : Seq) → eqb (payload_checksum_in ms) (checksum_of (payload_in ms)) ≡ true
         → (t ≡ get_or exit 0 0) × (q.0 ≡ get_or exit 3 0) × (n ≡ len_in there)
@@ -127,15 +127,15 @@ module _ (kept : ℕ) (held new : List ℕ) (size : length held ≡ kept) (long 
         → Decides d held new exit
     unfolding payload_of
     gives_message d t n q good read said =
-        let h = rw (← parts) at (whole_message there (take m rest) waits long-there size-parts (rw (← parts) good)) in
-        let type : t ≡ type_in there = read.0 ∙ byte-is 0 (omega arith) ∙ type-ms in
-        let seq : q.0 ≡ seq_in there = read.1 ∙ byte-is 3 (omega arith) ∙ seq-ms in
+        let h = rw (← parts) at (whole_message there (take m rest) waits long_there size_parts (rw (← parts) good)) in
+        let type : t ≡ type_in there = read.0 ∙ byte_is 0 (omega arith) ∙ type_ms in
+        let seq : q.0 ≡ seq_in there = read.1 ∙ byte_is 3 (omega arith) ∙ seq_ms in
         let none : drop (0 + total (len_in there)) ms ≡ [] =
-        drop_of_length-le ms {i = 0 + total (len_in there)} (omega (arith, size-ms)) in
+        drop_of_length-le ms {i = 0 + total (len_in there)} (omega (arith, size_ms)) in
         let part : take (len_in there) (drop 6 exit) ≡ take (len_in there) (drop header_length ms) =
-        rw exit-is (payload_behind ms (drop (length (drop 2 ms)) array) (len_in there) size-ms) in
+        rw exit_is (payload_behind ms (drop (length (drop 2 ms)) array) (len_in there) size_ms) in
         record {
-          gives = rw (said.0, said.1, said.2, said.3, said.4, item-is h refl, h, type, seq, read.2, part, none);
+          gives = rw (said.0, said.1, said.2, said.3, said.4, item_is h refl, h, type, seq, read.2, part, none);
           within = omega (arith, said.2, said.3);
         }
 
@@ -144,11 +144,11 @@ module _ (kept : ℕ) (held new : List ℕ) (size : length held ≡ kept) (long 
         → Decides d held new exit
     unfolding payload_of
     gives_damaged d bad said =
-        let h = rw (← parts) at (whole_damaged there (take m rest) waits long-there size-parts (rw (← parts) bad)) in
-        let count : length (drop 2 ms) ≡ kept + need - 2 = rw (length-drop 2 ms, size-ms) (omega arith) in
+        let h = rw (← parts) at (whole_damaged there (take m rest) waits long_there size_parts (rw (← parts) bad)) in
+        let count : length (drop 2 ms) ≡ kept + need - 2 = rw (length-drop 2 ms, size_ms) (omega arith) in
         let kept : take (kept + need - 2) exit ≡ drop 2 ms =
-        rw (exit-is, ← count) (take-append_seam (drop 2 ms) (drop (length (drop 2 ms)) array)) in
+        rw (exit_is, ← count) (take-append_seam (drop 2 ms) (drop (length (drop 2 ms)) array)) in
         record {
-          gives = rw (said.0, said.1, said.2, said.3, item-is h (ap total len-ms), h, kept);
+          gives = rw (said.0, said.1, said.2, said.3, item_is h (ap total len_ms), h, kept);
           within = omega (arith, said.2, said.3, waits_for);
         }

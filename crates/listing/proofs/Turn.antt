@@ -59,11 +59,11 @@ module _ (r : Received) (held new exit : List ℕ) (p : Receives r held new exit
       unfolding listed items_of waits_after
       listed_next = rw next
 
-      writes-next : writes_in room record { waiting = waiting; held = held } new
+      writes_next : writes_in room record { waiting = waiting; held = held } new
           ≡ writes room waiting
           ++ writes_in room record { waiting = waits room waiting (item_of i); held = take r.count exit } (drop r.taken new)
       unfolding writes_in items_of writes_after
-      writes-next = rw next
+      writes_next = rw next
 
       module _ {start : Standing} {piece : List ℕ} (l : Left room start piece record { waiting = waiting; held = held } new)
           {s : Sheet} {size : ℕ} {buffer : List ℕ} (same_size : size ≡ room) (a : Adds s size waiting (item_of i) buffer) where
@@ -76,7 +76,7 @@ module _ (r : Received) (held new exit : List ℕ) (p : Receives r held new exit
             record {
               same = rw (joined, behind r.taken new) (sym listed_next ∙ l.same);
               fewer = rw (joined, behind r.taken new)
-                  (omega (arith, l.fewer, ap length writes-next ∙ length-append (writes room waiting) _));
+                  (omega (arith, l.fewer, ap length writes_next ∙ length-append (writes room waiting) _));
             }
 
         -- the write that it wanted has failed
@@ -89,7 +89,7 @@ module _ (r : Received) (held new exit : List ℕ) (p : Receives r held new exit
               due = omega (
                 arith,
                 l.fewer,
-                ap length writes-next ∙ length-append (writes room waiting) _,
+                ap length writes_next ∙ length-append (writes room waiting) _,
                 ap length (writes_all room waiting why.0),
                 leb-false (length waiting + line_room) room why.0,
               );

@@ -131,13 +131,13 @@ module _ (live : Requests) (s : List ℕ) (row : ℕ) where
       record { full = full; same = refl; long = long; within = less; fits = fits; holds = refl; left = refl }
 
   module _ (next : Requests) (x : List ℕ) (i : ℕ) (so_far : MovedUp live s row next x i) where
-    long-so-far : length (live_of next x) ≡ live.count
-    long-so-far = length_live next so_far.full so_far.fits x ∙ so_far.same
+    long_so_far : length (live_of next x) ≡ live.count
+    long_so_far = length_live next so_far.full so_far.fits x ∙ so_far.same
 
-    next-moved : (y : List ℕ) → suc i < live.count
+    next_moved : (y : List ℕ) → suc i < live.count
         → y ≡ placed (room_place i) (room_at x (suc i) (get_or next.rows (suc i) blank_row).len) x
         → MovedUp live s row (with_row next i (get_or next.rows (suc i) blank_row)) y (suc i)
-    next-moved y less put =
+    next_moved y less put =
         let q = get_or next.rows (suc i) blank_row in
         let m = room_at x (suc i) q.len in
         let more : suc i < next.count = omega arith in
@@ -151,14 +151,14 @@ module _ (live : Requests) (s : List ℕ) (row : ℕ) where
           within = less;
           fits = up.fits;
           holds = up.holds ∙ so_far.holds;
-          left = rw up.lists (removed_next (live_of next x) i blank (omega (arith, long-so-far))) ∙ so_far.left;
+          left = rw up.lists (removed_next (live_of next x) i blank (omega (arith, long_so_far))) ∙ so_far.left;
         }
 
     -- one turn of the loop, in its terms
     pub one_moved : (y : List ℕ) → suc i < live.count
         → y ≡ placed (room_place i) (room_at x (suc i) (get_or next.rows (i + 1) blank_row).len) x
         → MovedUp live s row (with_row next i (get_or next.rows (i + 1) blank_row)) y (i + 1)
-    one_moved y less put = rw (add-one i) (next-moved y less (rw (add-one i) at put))
+    one_moved y less put = rw (add-one i) (next_moved y less (rw (add-one i) at put))
 
     pub all_moved : (then : Requests) → suc i ≡ live.count → then.rows ≡ next.rows → then.count ≡ i
         → Becomes then (removed row (live_of live s)) s x
@@ -166,7 +166,7 @@ module _ (live : Requests) (s : List ℕ) (row : ℕ) where
         let first : rows_of then ≡ take i (rows_of next) =
         rw (rows, count) (sym (take-take i next.count next.rows (omega arith))) in
         let end : removed i (live_of next x) ≡ take i (live_of next x) =
-        removed_last (live_of next x) i (long-so-far ∙ sym last) in
+        removed_last (live_of next x) i (long_so_far ∙ sym last) in
         record {
           lists = rw first (requests_take i 0 (rows_of next) x) ∙ sym end ∙ so_far.left;
           fits = record { few = omega arith; short = rw first (short_take i (rows_of next) so_far.fits.short) };

@@ -23,37 +23,37 @@ neither false b h = (refl, h)
 
 -- data that are not too long: those of the first row, and of the others
 module _ (q : Request) (qs : List Request) where
-  short-first : too_long (q ∷ qs) ≡ false → q.len ≤ max_data
+  short_first : too_long (q ∷ qs) ≡ false → q.len ≤ max_data
   unfolding too_long
-  short-first h = ltb-false max_data q.len (neither (ltb max_data q.len) (too_long qs) h).0
+  short_first h = ltb-false max_data q.len (neither (ltb max_data q.len) (too_long qs) h).0
 
-  short-others : too_long (q ∷ qs) ≡ false → too_long qs ≡ false
+  short_others : too_long (q ∷ qs) ≡ false → too_long qs ≡ false
   unfolding too_long
-  short-others h = (neither (ltb max_data q.len) (too_long qs) h).1
+  short_others h = (neither (ltb max_data q.len) (too_long qs) h).1
 
-  short-both : q.len ≤ max_data → too_long qs ≡ false → too_long (q ∷ qs) ≡ false
+  short_both : q.len ≤ max_data → too_long qs ≡ false → too_long (q ∷ qs) ≡ false
   unfolding too_long
-  short-both h t = rw (le-ltb max_data q.len h, t)
+  short_both h t = rw (le-ltb max_data q.len h, t)
 
 pub short_set : (qs : List Request) (i : ℕ) (q : Request) → too_long qs ≡ false → q.len ≤ max_data → too_long (set qs i q) ≡ false
 short_set [] i q h s = h
-short_set (p ∷ qs) zero q h s = short-both q qs s (short-others p qs h)
-short_set (p ∷ qs) (suc i) q h s = short-both p (set qs i q) (short-first p qs h) (short_set qs i q (short-others p qs h) s)
+short_set (p ∷ qs) zero q h s = short_both q qs s (short_others p qs h)
+short_set (p ∷ qs) (suc i) q h s = short_both p (set qs i q) (short_first p qs h) (short_set qs i q (short_others p qs h) s)
 
 pub short_take : (n : ℕ) (qs : List Request) → too_long qs ≡ false → too_long (take n qs) ≡ false
 unfolding too_long
 short_take zero qs h = refl
 short_take (suc n) [] h = h
-short_take (suc n) (q ∷ qs) h = short-both q (take n qs) (short-first q qs h) (short_take n qs (short-others q qs h))
+short_take (suc n) (q ∷ qs) h = short_both q (take n qs) (short_first q qs h) (short_take n qs (short_others q qs h))
 
 pub short_join : (qs : List Request) (q : Request) → too_long qs ≡ false → q.len ≤ max_data → too_long (qs ++ (q ∷ [])) ≡ false
-short_join [] q h s = short-both q [] s h
-short_join (p ∷ qs) q h s = short-both p (qs ++ (q ∷ [])) (short-first p qs h) (short_join qs q (short-others p qs h) s)
+short_join [] q h s = short_both q [] s h
+short_join (p ∷ qs) q h s = short_both p (qs ++ (q ∷ [])) (short_first p qs h) (short_join qs q (short_others p qs h) s)
 
 pub short_at : (qs : List Request) (i : ℕ) → too_long qs ≡ false → (get_or qs i blank_row).len ≤ max_data
 short_at [] i h = omega arith
-short_at (q ∷ qs) zero h = short-first q qs h
-short_at (q ∷ qs) (suc i) h = short_at qs i (short-others q qs h)
+short_at (q ∷ qs) zero h = short_first q qs h
+short_at (q ∷ qs) (suc i) h = short_at qs i (short_others q qs h)
 
 -- the requests of the first rows
 pub requests_take : (n k : ℕ) (qs : List Request) (s : List ℕ) → requests_from k (take n qs) s ≡ take n (requests_from k qs s)
@@ -69,8 +69,8 @@ pub requests_stay : (k : ℕ) (qs : List Request) (s x : List ℕ)
 unfolding requests_from
 requests_stay k [] s x o h = refl
 requests_stay k (q ∷ qs) s x o h =
-    let own : room_at x k q.len ≡ room_at s k q.len = o k q.len (omega arith) (omega arith) (short-first q qs h) in
-    let rest = requests_stay (suc k) qs s x (λ j n a b c. o j n (omega arith) (omega arith) c) (short-others q qs h) in
+    let own : room_at x k q.len ≡ room_at s k q.len = o k q.len (omega arith) (omega arith) (short_first q qs h) in
+    let rest = requests_stay (suc k) qs s x (λ j n a b c. o j n (omega arith) (omega arith) c) (short_others q qs h) in
     rw (own, rest)
 
 -- another request in a row, whose room alone changes
@@ -80,13 +80,13 @@ pub requests_set : (k i : ℕ) (qs : List Request) (q : Request) (s x : List ℕ
 unfolding requests_from
 requests_set k i [] q s x o h few = refl
 requests_set k zero (p ∷ qs) q s x o h few =
-    let rest = requests_stay (suc k) qs s x (λ j n a b c. o j n (omega arith) (omega arith) c) (short-others p qs h) in
+    let rest = requests_stay (suc k) qs s x (λ j n a b c. o j n (omega arith) (omega arith) c) (short_others p qs h) in
     rw (add-zero k, rest)
 requests_set k (suc i) (p ∷ qs) q s x o h few =
-    let own : room_at x k p.len ≡ room_at s k p.len = o k p.len (omega arith) (omega arith) (short-first p qs h) in
+    let own : room_at x k p.len ≡ room_at s k p.len = o k p.len (omega arith) (omega arith) (short_first p qs h) in
     let sum : suc k + i ≡ k + suc i = omega arith in
     let stay : OthersStay (suc k + i) s x = rw sum o in
-    let rest = rw sum at (requests_set (suc k) i qs q s x stay (short-others p qs h) (omega arith)) in
+    let rest = rw sum at (requests_set (suc k) i qs q s x stay (short_others p qs h) (omega arith)) in
     rw (own, rest)
 
 -- a request behind the others

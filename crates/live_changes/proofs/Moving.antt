@@ -32,8 +32,8 @@ module _ (to from i : ℕ) (l : List ℕ) (up : to ≤ from) (within : from + i 
   length_pulled = length_placed to (take i (drop from l)) l (omega (arith, count))
 
   -- a byte that is not there yet
-  pulled-at : (d : ℕ) → get_or (pulled to from i l) (from + i) d ≡ get_or l (from + i) d
-  pulled-at d =
+  pulled_at : (d : ℕ) → get_or (pulled to from i l) (from + i) d ≡ get_or l (from + i) d
+  pulled_at d =
       let sum : to + length (take i (drop from l)) + (from - to) ≡ from + i = omega (arith, count) in
       let rest : drop (from + i) (pulled to from i l) ≡ drop (from + i) l =
       rw sum at (beyond_placed to (take i (drop from l)) l (omega (arith, count)) (from - to)) in
@@ -51,4 +51,4 @@ module _ (to from i : ℕ) (l : List ℕ) (up : to ≤ from) (within : from + i 
       take-suc (drop from l) i 0 (rw (length-drop from l) (omega arith)) ∙ rw (get_or-drop from l i 0) in
       let joined : placed (to + i) (a ∷ []) (pulled to from i l) ≡ placed to (m ++ (a ∷ [])) l =
       rw count at (neighbours to m (a ∷ []) l (omega (arith, count))) in
-      rw (pulled-at 0, next) (stored (to + i) a (pulled to from i l) (omega (arith, length_pulled)) ∙ joined)
+      rw (pulled_at 0, next) (stored (to + i) a (pulled to from i l) (omega (arith, length_pulled)) ∙ joined)

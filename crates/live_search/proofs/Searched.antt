@@ -62,9 +62,9 @@ module _ (live : Requests) (store : List ℕ) (full : length live.rows ≡ live_
         → oldest f (live_of live store) ≡ nobody
     none_here row is none = oldest_none f (live_of live store) (omega (arith, first, length_live))
 
-    one-here : (row : ℕ) → row ≡ first_where (λ q. shows query (request_of q [])) (rows_of live) → row < live.count
+    one_here : (row : ℕ) → row ≡ first_where (λ q. shows query (request_of q [])) (rows_of live) → row < live.count
         → Finds f (live_of live store) row
-    one-here row is less =
+    one_here row is less =
         let there = sym (is ∙ sym first) in
         let s = found_shows f (live_of live store) row there (omega (arith, length_live)) in
         record {
@@ -80,7 +80,7 @@ module _ {A : Type 0} (f : ledger.Request → Option A) {live : Requests} {query
   none_found none = rw same (none_here live store s.full s.few f query asks row s.is none)
 
   pub one_found : row < live.count → Finds f them row
-  one_found less = rw same (one-here live store s.full s.few f query asks row s.is less)
+  one_found less = rw same (one_here live store s.full s.few f query asks row s.is less)
 
   pub found_row : row < live.count → at row them ≡ request_of (row_at live row) (room_at store row (row_at live row).len)
   found_row less = rw same (at_row live store s.full s.few row less)

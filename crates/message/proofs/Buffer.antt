@@ -102,11 +102,11 @@ after_standing a i n l fits =
 
 -- two loans one after the other: from a place on, and from the end of the first bytes on
 module _ (a k : ℕ) (m l x : List ℕ) (size : length m ≡ k) (first : x ≡ placed 0 m (lent_from a l)) where
-  lent-first : a + k ≤ length l → given_back a l x ≡ placed a m l
-  lent-first fits = rw first (lent_front a m l (omega arith))
+  lent_first : a + k ≤ length l → given_back a l x ≡ placed a m l
+  lent_first fits = rw first (lent_front a m l (omega arith))
 
   length_first : a + k ≤ length l → length (given_back a l x) ≡ length l
-  length_first fits = ap length (lent-first fits) ∙ length_placed a m l (omega arith)
+  length_first fits = ap length (lent_first fits) ∙ length_placed a m l (omega arith)
 
   -- the second places bytes at its front
   pub lent_twice : (n y : List ℕ) → a + k + length n ≤ length l
@@ -115,14 +115,14 @@ module _ (a k : ℕ) (m l x : List ℕ) (size : length m ≡ k) (first : x ≡ p
   lent_twice n y fits second =
       let same = length_first (omega arith) in
       let step : placed (a + k) n (placed a m l) ≡ placed a (m ++ n) l = rw size at (neighbours a m n l (omega arith)) in
-      rw (second, lent_front (a + k) n (given_back a l x) (omega arith), lent-first (omega arith)) step
+      rw (second, lent_front (a + k) n (given_back a l x) (omega arith), lent_first (omega arith)) step
 
   -- the second is lent what stood there before both
   pub lent_second : a + k ≤ length l
       → lent_from (a + k) (given_back a l x) ≡ drop (a + k) l
   lent_second fits =
       let step : drop (a + k) (placed a m l) ≡ drop (a + k) l = rw size at (after_placed a m l (omega arith)) in
-      rw (tail (a + k) (given_back a l x), lent-first fits) step
+      rw (tail (a + k) (given_back a l x), lent_first fits) step
 
   -- and places bytes after i of those
   pub lent_after : (i : ℕ) (n y : List ℕ) → a + k + i + length n ≤ length l
@@ -138,4 +138,4 @@ module _ (a k : ℕ) (m l x : List ℕ) (size : length m ≡ k) (first : x ≡ p
       rw kept at (after_standing (a + k) i n (placed a m l) (omega arith)) in
       let outer : placed (a + k) (take i (drop (a + k) l) ++ n) (placed a m l) ≡ placed a (m ++ (take i (drop (a + k) l) ++ n)) l =
       rw size at (neighbours a m (take i (drop (a + k) l) ++ n) l (simp length-append (omega arith))) in
-      rw (second, lent (a + k) i n (given_back a l x) (omega arith), lent-first (omega arith)) (inner ∙ outer)
+      rw (second, lent (a + k) i n (given_back a l x) (omega arith), lent_first (omega arith)) (inner ∙ outer)

@@ -61,29 +61,29 @@ pub data Applied (n : ℕ) (xs : List ℕ) (s : Scan) : Type 0 where
 module _ (n : ℕ) (xs : List ℕ) where
   module _ (long : header_length ≤ length xs) (sound : eqb (header_checksum_in xs) (checksum_of (fields_in xs)) ≡ true)
       (fine : allowed (type_in xs) (len_in xs) ≡ true) where
-    at-payload : (whole : total (len_in xs) ≤ length xs) (b : Bool) → eqb (payload_checksum_in xs) (checksum_of (payload_in xs)) ≡ b
+    at_payload : (whole : total (len_in xs) ≤ length xs) (b : Bool) → eqb (payload_checksum_in xs) (checksum_of (payload_in xs)) ≡ b
         → Applied n xs (rules n xs)
-    at-payload whole true h = by_6 long sound fine whole h (rule_6 n xs long sound fine whole h)
-    at-payload whole false h = by_5 long sound fine whole h (rule_5 n xs long sound fine whole h)
+    at_payload whole true h = by_6 long sound fine whole h (rule_6 n xs long sound fine whole h)
+    at_payload whole false h = by_5 long sound fine whole h (rule_5 n xs long sound fine whole h)
 
     at_length : (b : Bool) → ltb (length xs) (total (len_in xs)) ≡ b → Applied n xs (rules n xs)
     at_length true h =
         by_4 long sound fine (ltb-true _ _ h) (rule_4 n xs long sound fine (ltb-true _ _ h))
-    at_length false h = at-payload (ltb-false _ _ h) (eqb (payload_checksum_in xs) (checksum_of (payload_in xs))) refl
+    at_length false h = at_payload (ltb-false _ _ h) (eqb (payload_checksum_in xs) (checksum_of (payload_in xs))) refl
 
-  at-header : (long : header_length ≤ length xs) → eqb (header_checksum_in xs) (checksum_of (fields_in xs)) ≡ true → (b : Bool)
+  at_header : (long : header_length ≤ length xs) → eqb (header_checksum_in xs) (checksum_of (fields_in xs)) ≡ true → (b : Bool)
       → allowed (type_in xs) (len_in xs) ≡ b → Applied n xs (rules n xs)
-  at-header long sound true h = at_length long sound h (ltb (length xs) (total (len_in xs))) refl
-  at-header long sound false h = by_3 long sound h (rule_3 n xs long sound h)
+  at_header long sound true h = at_length long sound h (ltb (length xs) (total (len_in xs))) refl
+  at_header long sound false h = by_3 long sound h (rule_3 n xs long sound h)
 
-  at-checksum : header_length ≤ length xs → (b : Bool) → eqb (header_checksum_in xs) (checksum_of (fields_in xs)) ≡ b
+  at_checksum : header_length ≤ length xs → (b : Bool) → eqb (header_checksum_in xs) (checksum_of (fields_in xs)) ≡ b
       → Applied n xs (rules n xs)
-  at-checksum long true h = at-header long h (allowed (type_in xs) (len_in xs)) refl
-  at-checksum long false h = by_2 long h (rule_2 n xs long h)
+  at_checksum long true h = at_header long h (allowed (type_in xs) (len_in xs)) refl
+  at_checksum long false h = by_2 long h (rule_2 n xs long h)
 
-  at-start : (b : Bool) → ltb (length xs) header_length ≡ b → Applied n xs (rules n xs)
-  at-start true h = by_1 (ltb-true _ _ h) (rule_1 n xs (ltb-true _ _ h))
-  at-start false h = at-checksum (ltb-false _ _ h) (eqb (header_checksum_in xs) (checksum_of (fields_in xs))) refl
+  at_start : (b : Bool) → ltb (length xs) header_length ≡ b → Applied n xs (rules n xs)
+  at_start true h = by_1 (ltb-true _ _ h) (rule_1 n xs (ltb-true _ _ h))
+  at_start false h = at_checksum (ltb-false _ _ h) (eqb (header_checksum_in xs) (checksum_of (fields_in xs))) refl
 
   pub applied : Applied n xs (rules n xs)
-  applied = at-start (ltb (length xs) header_length) refl
+  applied = at_start (ltb (length xs) header_length) refl

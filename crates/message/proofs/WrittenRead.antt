@@ -47,10 +47,10 @@ module _ (xs : List ℕ) (bytes : (i : ℕ) → get_or xs i 0 < 256) (long : hea
       pair_at 6 xs (omega arith) ∙ sym (le16_from (get_or xs 6 0) (get_or xs 7 0) (bytes 6)) ∙ ap le16 sound in
       take-add 2 6 xs ∙ rw (syn_left xs (omega arith) here, whole, sum, ← fields_read)
 
-  body-read : total (len_in xs) ≤ length xs → payload_checksum_in xs ≡ checksum_of (payload_in xs)
+  body_read : total (len_in xs) ≤ length xs → payload_checksum_in xs ≡ checksum_of (payload_in xs)
       → take (len_in xs + 2) (drop header_length xs) ≡ body (payload_in xs)
   unfolding body
-  body-read whole good =
+  body_read whole good =
       let sum : take 2 (drop (header_length + len_in xs) xs) ≡ le16 (checksum_of (payload_in xs)) =
       pair_at (header_length + len_in xs) xs (omega arith)
       ∙ sym (le16_from (get_or xs (header_length + len_in xs) 0) (get_or xs (header_length + len_in xs + 1) 0)
@@ -74,7 +74,7 @@ message_read n xs {t} {q} {len} {d} {r} bytes here m =
       take-add header_length (len_in xs + 2) xs,
       header_read xs bytes (omega arith) here
           m.sound,
-      body-read xs bytes (omega arith) m.whole m.good,
+      body_read xs bytes (omega arith) m.whole m.good,
     )
 
 pub written_read : (xs : List ℕ) {t q len d r : ℕ} → ((i : ℕ) → get_or xs i 0 < 256) → scan xs ≡ decided (items.message t q len) d r

@@ -21,11 +21,11 @@ module _ (now clock : ℕ) (later : now ≤ clock) where
   in_time_law (in_flight f) h = let sent = ltb-false now f.sent h in omega arith
   in_time_law (waiting since) h = let began = ltb-false now since h in omega arith
 
-  all-in-time : (rows : List Request) → some_of (λ q. is_late now q.state) (bare_of rows) ≡ false → NoneLate clock rows
+  all_in_time : (rows : List Request) → some_of (λ q. is_late now q.state) (bare_of rows) ≡ false → NoneLate clock rows
   unfolding some_of
-  all-in-time [] h = tt
-  all-in-time (q ∷ qs) h =
-      let parts = neither (is_late now (state_of q.state)) _ h in (in_time_law (state_of q.state) parts.0, all-in-time qs parts.1)
+  all_in_time [] h = tt
+  all_in_time (q ∷ qs) h =
+      let parts = neither (is_late now (state_of q.state)) _ h in (in_time_law (state_of q.state) parts.0, all_in_time qs parts.1)
 
 pub none_late : (e : Endpoint) (clock : ℕ) → malformed e ≡ false → e.clock ≤ clock → NoneLate clock (rows_of e.live)
-none_late e clock h later = all-in-time e.clock clock later (rows_of e.live) (facts {e = e} h).times
+none_late e clock h later = all_in_time e.clock clock later (rows_of e.live) (facts {e = e} h).times

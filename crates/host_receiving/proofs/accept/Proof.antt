@@ -12,7 +12,7 @@ use Rattle.refinement.proofs.Sound.{few_of, held_of}
 use Rattle.decisions_verdict.specs.declared.Verdict.{Verdict}
 use Rattle.host_answers.specs.Code.{Ready}
 use Rattle.host_answers.proofs.Held.{length_front}
-use Rattle.host_receiving.proofs.Deciding.{short_payload, on_more, on_plain, on_message}
+use Rattle.host_receiving.proofs.Deciding.{short_payload, on_more, on_plain, on_message_law}
 use Rattle.host_receiving.proofs.accept.Statement.{statement}
 use Rattle.host_receiving.proofs.accept.Tie as tie
 
@@ -152,7 +152,7 @@ returns-3 c =
     let decided = one.before.before.before in
     let d = decided.before.decide-in in
     let a = (start decided).args in
-    on_message a.e d.result v.result a.clock put.result acted.act3.result a.bytes.now a.store.now
+    on_message_law a.e d.result v.result a.clock put.result acted.act3.result a.bytes.now a.store.now
     d.new.0 acted.act3.new.1.0 a.reply.now a.buffer.now d.ensures acted.act3.ensures item.0.0
     item.0.1.1.0 item.0.1.0 put.new.0 v.new.1.1.1.1.1.1.0 (answer.1 ∙ ap One item.1)
     (rw item.1 at put.ensures) v.ensures.0 v.ensures.1
