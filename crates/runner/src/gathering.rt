@@ -22,7 +22,7 @@ pub(crate) struct Progress {
     pub(crate) next: Next,
 }
 
-#[derive(Drop)]
+#[derive(Clone, Copy)]
 pub(crate) enum Next {
     Read,
     End,
