@@ -33,14 +33,12 @@ returns-then-not-sheet-clause-lists_piece _ c =
 
 pub slice_bounds-rest-count : goal.slice_bounds-rest-count
 slice_bounds-rest-count _ c =
-    let r =
-    c.receive-received in
+    let r = c.receive-received in
     (removes r.result _ _ _ r.ensures _ c.in-One.is).0
 
 pub slice_bounds-rest-start : goal.slice_bounds-rest-start
 slice_bounds-rest-start _ c =
-    let r =
-    c.receive-received in
+    let r = c.receive-received in
     (removes r.result _ _ _ r.ensures _ c.in-One.is).0
 
 pub loop-item-smaller : goal.loop-item-smaller
@@ -48,14 +46,7 @@ loop-item-smaller _ c =
     let r = c.receive-received in
     let w = removes r.result _ _ _ r.ensures _
     c.in-One.is in
-    simp (length-take, length-drop)
-    (omega (
-      arith,
-      w,
-      counted
-          c.loop-item.count
-          c.loop-item.held,
-    ))
+    simp (length-take, length-drop) (omega (arith, w, counted c.loop-item.count c.loop-item.held))
 
 pub loop-item-preserved : goal.loop-item-preserved
 loop-item-preserved _ c =
