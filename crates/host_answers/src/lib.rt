@@ -7,7 +7,7 @@ use ledger::{Ending, Word};
 use line::Answer;
 
 // Open: a refusal's number, or that it is done.
-#[derive(Drop)]
+#[derive(Clone, Copy)]
 pub enum OpenAnswer {
     Refused(u8),
     Opened,
@@ -20,7 +20,7 @@ pub struct Opened {
 }
 
 // Submit: a refusal's number, or the request ID.
-#[derive(Drop)]
+#[derive(Clone, Copy)]
 pub enum SubmitAnswer {
     Refused(u8),
     Submitted(RequestId),
@@ -50,7 +50,7 @@ pub struct Receipt {
 }
 
 // Receive: a refusal's number, or the receipt.
-#[derive(Drop)]
+#[derive(Clone, Copy)]
 pub enum ReceiveAnswer {
     Refused(u8),
     Received(Receipt),
@@ -63,7 +63,7 @@ pub struct Received {
 }
 
 // Poll: a refusal's number, the length sent, an ending, or *quiet* with the milliseconds to the earliest deadline or with none.
-#[derive(Drop)]
+#[derive(Clone, Copy)]
 pub enum PollAnswer {
     Refused(u8),
     Sent(usize),

@@ -2,6 +2,6 @@
 // implementation under `tests/` wrote.
 #![tactic(auto)]
 
-fn main() {
-    listing::list_standard_input();
+fn main(rt: HostRuntime) {
+    listing::list_standard_input(&rt);
 }

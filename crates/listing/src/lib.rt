@@ -7,11 +7,17 @@ ghost use Rattle.listing_words.specs.Words.{decimal_limit};
 ghost use Rattle.listing_lines.specs.Text.{line_room};
 ghost use Rattle.listing.specs.Promises.{standing, ListsPiece, ListsSome, ListsAll};
 
-use libc::{STDERR_FILENO, STDIN_FILENO, STDOUT_FILENO};
 use line::{Answer, HELD_MAX};
 use line_receiving::receive;
 use listing_lines::add_line;
 use listing_lines::text::put_end;
+use std::io;
+use std::io::{Read, Write};
+
+// How many bytes are read at once, and how many bytes of lines wait at most.
+const PIECE_LENGTH: usize = 65536;
+
+const OUT_LENGTH: usize = 4096;
 
 // How far the listing is: the bytes that the line holds, the bytes of lines that wait, and what comes next.
 #[derive(Drop)]
@@ -31,20 +37,27 @@ enum Next {
 
 // Lists standard input on standard output. Where a read or a write fails, standard error says so and `end` is not printed. No
 // contract can say what a program reads or writes: that much is tested.
-pub fn list_standard_input() {
+pub fn list_standard_input(rt: &(impl Input + Print + Eprint)) {
     let mut held = [0; HELD_MAX];
-    let mut out = io::buffer();
-    if !io::write_all(STDOUT_FILENO, b"items\n") {
-        say(b"lister: writing standard output failed\n");
+    let mut out = [0; OUT_LENGTH];
+    let mut output = io::writer(rt);
+    if output.write_all(b"items\n").is_err() {
+        say(rt, "lister: writing standard output failed\n");
         return;
     }
-    let listing = list_all(&mut held, &mut out);
-    finish(&mut out, listing);
+    let mut input = rt.reader();
+    let listing = list_all(&mut input, &mut output, &mut held, &mut out);
+    finish(rt, &mut output, &mut out, listing);
 }
 
 // Reads until the input ends or something fails. A proved loop has to end, and nothing says that an input does: so it counts down
 // from a number that no run uses up. The contract speaks of some input, since none can say what is read.
-fn list_all(held: &mut [u8; HELD_MAX], out: &mut [u8]) -> Listing
+fn list_all<R: Read, W: Write>(
+    input: &mut R,
+    output: &mut W,
+    held: &mut [u8; HELD_MAX],
+    out: &mut [u8],
+) -> Listing
     requires { line_room ≤ length out.old }
     ensures count_le_held_max { (result.count ≤ held_max) × (result.used ≤ length out.new) }
     ensures lists_all { ListsAll result.next (length out.old)
@@ -54,7 +67,7 @@ fn list_all(held: &mut [u8; HELD_MAX], out: &mut [u8]) -> Listing
     let mut used = 0;
     let mut turns = u64::MAX;
     while turns > 0 {
-        let listing = list_some(held, count, out, used);
+        let listing = list_some(input, output, held, count, out, used);
         let next = listing.next;
         let Next::Read = next else {
             return listing;
@@ -71,35 +84,41 @@ fn list_all(held: &mut [u8; HELD_MAX], out: &mut [u8]) -> Listing
 }
 
 // Reads once, and lists what came: in the contract, some piece.
-fn list_some(held: &mut [u8; HELD_MAX], count: usize, out: &mut [u8], used: usize) -> Listing
+fn list_some<R: Read, W: Write>(
+    input: &mut R,
+    output: &mut W,
+    held: &mut [u8; HELD_MAX],
+    count: usize,
+    out: &mut [u8],
+    used: usize,
+) -> Listing
     requires { (count ≤ held_max) × (used ≤ length out.old) × (line_room ≤ length out.old) }
     ensures count_le_held_max { (result.count ≤ held_max) × (result.used ≤ length out.new) }
     ensures lists_some { ListsSome result.next (length out.old) (standing used count out.old held.old)
         (standing result.used result.count out.new held.new) }
 {
-    let mut piece = io::large_buffer();
-    let got = libc::read(STDIN_FILENO, &mut piece);
-    if got < 0 {
+    let mut piece = [0; PIECE_LENGTH];
+    let Ok(n) = input.read(&mut piece) else {
         return Listing {
             count,
             used,
             next: Next::ReadFailed,
         };
-    }
-    if got == 0 {
+    };
+    if n == 0 {
         return Listing {
             count,
             used,
             next: Next::End,
         };
     }
-    let n = io::count(got, &piece);
-    list_piece(held, count, out, used, &piece[..n])
+    list_piece(output, held, count, out, used, &piece[..n])
 }
 
 // Hands the piece in, its untaken rest again, until *more*: a line for each item joins those that wait.
 // Ruled out: an item without its line, and lines of the pieces before that are forgotten.
-fn list_piece(
+fn list_piece<W: Write>(
+    output: &mut W,
     held: &mut [u8; HELD_MAX],
     count: usize,
     out: &mut [u8],
@@ -125,7 +144,7 @@ fn list_piece(
                 next: Next::Read,
             };
         };
-        let sheet = add_line(out, used, item);
+        let sheet = add_line(output, out, used, item);
         used = sheet.used;
         if !sheet.fine {
             return Listing {
@@ -140,37 +159,37 @@ fn list_piece(
 }
 
 // The last lines, or what failed.
-fn finish(out: &mut [u8], listing: Listing)
+fn finish<W: Write>(rt: &impl Eprint, output: &mut W, out: &mut [u8], listing: Listing)
     requires { (line_room ≤ length out.old) × (listing.count ≤ held_max) × (listing.used ≤ length out.old) }
 {
     let next = listing.next;
     match next {
         Next::End => {
-            if !end_sheet(out, listing.used, listing.count) {
-                say(b"lister: writing standard output failed\n");
+            if !end_sheet(output, out, listing.used, listing.count) {
+                say(rt, "lister: writing standard output failed\n");
             }
         }
-        Next::Read => say(b"lister: standard input does not end\n"),
+        Next::Read => say(rt, "lister: standard input does not end\n"),
         Next::ReadFailed => {
             let used = listing.used;
-            io::write_all(STDOUT_FILENO, &out[..used]);
-            say(b"lister: reading standard input failed\n");
+            let _ = output.write_all(&out[..used]);
+            say(rt, "lister: reading standard input failed\n");
         }
-        Next::WriteFailed => say(b"lister: writing standard output failed\n"),
+        Next::WriteFailed => say(rt, "lister: writing standard output failed\n"),
     }
 }
 
 // All lines that wait are written, and the last one behind them. Answers whether every write was taken whole.
-fn end_sheet(out: &mut [u8], used: usize, held: usize) -> bool
+fn end_sheet<W: Write>(output: &mut W, out: &mut [u8], used: usize, held: usize) -> bool
     requires { (used ≤ length out.old) × (line_room ≤ length out.old) × (held < decimal_limit) }
 {
-    if !io::write_all(STDOUT_FILENO, &out[..used]) {
+    if output.write_all(&out[..used]).is_err() {
         return false;
     }
     let end = put_end(out, 0, held);
-    io::write_all(STDOUT_FILENO, &out[..end])
+    output.write_all(&out[..end]).is_ok()
 }
 
-fn say(text: &[u8]) {
-    io::write_all(STDERR_FILENO, text);
+fn say(rt: &impl Eprint, text: &str) {
+    let _ = rt.eprint(text);
 }

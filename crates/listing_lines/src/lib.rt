@@ -1,5 +1,5 @@
-// The lines of a listing (document 01, "Capture lister") to standard output, many at a time: they wait at the front of a lent buffer
-// until it has no room for one more. For `listing`, which reads.
+// The lines of a listing (document 01, "Capture lister") to a writer, many at a time: they wait at the front of a lent buffer until
+// it has no room for one more. For `listing`, which reads.
 #![tactic(auto)]
 
 pub mod text; // an item as a line of text
@@ -11,8 +11,8 @@ ghost use Rattle.listing_lines.specs.Promises.{Adds};
 ghost use Rattle.listing_lines.specs.Text.{line_room, len_of};
 
 use crate::text::{LINE_ROOM, put_line};
-use libc::STDOUT_FILENO;
 use message::Item;
+use std::io::Write;
 
 // How many bytes wait, and whether every write was taken whole.
 #[derive(Drop)]
@@ -24,12 +24,12 @@ pub struct Sheet {
 // The line of an item joins those that wait; where there is no room for it, those are written first, and it waits alone. Public
 // for `listing`.
 // Ruled out: a line that is put over those that wait, and one that is left out.
-pub fn add_line(out: &mut [u8], used: usize, item: Item) -> Sheet
+pub fn add_line<W: Write>(output: &mut W, out: &mut [u8], used: usize, item: Item) -> Sheet
     requires { (used ≤ length out.old) × (line_room ≤ length out.old) × (len_of (item_of item) < decimal_limit) }
     ensures { Adds result (length out.old) (take used out.old) (item_of item) out.new }
 {
     if out.len() - used < LINE_ROOM {
-        if !io::write_all(STDOUT_FILENO, &out[..used]) {
+        if output.write_all(&out[..used]).is_err() {
             return Sheet {
                 used: 0,
                 fine: false,

@@ -4,39 +4,37 @@ use command::Fields;
 use endpoint::{Endpoint, STORE_LENGTH};
 use host::{poll, receive, submit};
 use host_answers::{PollAnswer, ReceiveAnswer, SubmitAnswer};
-use libc::STDOUT_FILENO;
+use std::io;
 
 // The line of an endpoint, with calls that nothing is wrong with but the endpoint.
-pub(crate) fn print_answers(what: &[u8], e: Endpoint) {
+pub(crate) fn print_answers(rt: &impl Print, what: &str, e: Endpoint) -> io::Result<()> {
     let data = [0; 248];
     let mut reply = [0; 10];
     let mut buffer = [0; 248];
     let mut output = [0; 266];
-    say(what);
-    say(b": submit ");
-    print_number(submitted(e, &data, CLOCK));
-    say(b", receive ");
-    print_number(received(e, &mut reply, &mut buffer, CLOCK));
-    say(b", poll ");
-    print_number(polled(e, &mut output, CLOCK));
-    say(b"\n");
+    print!(rt; "{what}: submit ")?;
+    print_number(rt, submitted(e, &data, CLOCK))?;
+    print!(rt; ", receive ")?;
+    print_number(rt, received(e, &mut reply, &mut buffer, CLOCK))?;
+    print!(rt; ", poll ")?;
+    print_number(rt, polled(e, &mut output, CLOCK))?;
+    println!(rt; "")
 }
 
 // The same with calls that the table refuses for other reasons too: submit with too much data, receive with too short a reply
 // buffer, and poll with a reading below the last one and too short an output.
-pub(crate) fn print_refusals(what: &[u8], e: Endpoint) {
+pub(crate) fn print_refusals(rt: &impl Print, what: &str, e: Endpoint) -> io::Result<()> {
     let data = [0; 249];
     let mut reply = [0; 9];
     let mut buffer = [0; 248];
     let mut output = [0; 265];
-    say(what);
-    say(b": submit ");
-    print_number(submitted(e, &data, CLOCK));
-    say(b", receive ");
-    print_number(received(e, &mut reply, &mut buffer, CLOCK));
-    say(b", poll ");
-    print_number(polled(e, &mut output, EARLIER));
-    say(b"\n");
+    print!(rt; "{what}: submit ")?;
+    print_number(rt, submitted(e, &data, CLOCK))?;
+    print!(rt; ", receive ")?;
+    print_number(rt, received(e, &mut reply, &mut buffer, CLOCK))?;
+    print!(rt; ", poll ")?;
+    print_number(rt, polled(e, &mut output, EARLIER))?;
+    println!(rt; "")
 }
 
 // Submit: a refusal's number, 0 where it is accepted.
@@ -79,14 +77,9 @@ fn polled(e: Endpoint, output: &mut [u8], clock: u64) -> u8 {
     }
 }
 
-fn print_number(number: u8) {
+fn print_number(rt: &impl Print, number: u8) -> io::Result<()> {
     if number == 0 {
-        say(b"accepted");
-        return;
+        return print!(rt; "accepted");
     }
-    io::print_decimal(STDOUT_FILENO, number as u64);
-}
-
-fn say(text: &[u8]) {
-    io::write_all(STDOUT_FILENO, text);
+    print!(rt; "{number}")
 }

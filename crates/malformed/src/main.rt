@@ -12,127 +12,144 @@ use crate::endpoints::{
     with_held, with_id, with_len, with_next, with_reserved, with_second, with_state, with_third,
 };
 use endpoint::State;
+use std::io;
 
-fn main() {
-    print_sound();
-    print_reserved();
-    print_live_ids();
-    print_next_ids();
-    print_equal_ids();
-    print_flights();
-    print_transmissions();
-    print_times();
-    print_late();
-    print_counts();
-    print_lengths();
-    print_held();
+fn main(rt: HostRuntime) -> io::Result<()> {
+    print_sound(&rt)?;
+    print_reserved(&rt)?;
+    print_live_ids(&rt)?;
+    print_next_ids(&rt)?;
+    print_equal_ids(&rt)?;
+    print_flights(&rt)?;
+    print_transmissions(&rt)?;
+    print_times(&rt)?;
+    print_late(&rt)?;
+    print_counts(&rt)?;
+    print_lengths(&rt)?;
+    print_held(&rt)
 }
 
 // Every limit is met exactly. Submit's 5 says that three are live. Calls with another fault have its number.
-fn print_sound() {
-    print_answers(b"none, three live", sound());
-    print_answers(b"none, two live", with_count(sound(), 2));
-    print_refusals(b"none, two live, faulty calls", with_count(sound(), 2));
+fn print_sound(rt: &impl Print) -> io::Result<()> {
+    print_answers(rt, "none, three live", sound())?;
+    print_answers(rt, "none, two live", with_count(sound(), 2))?;
+    print_refusals(rt, "none, two live, faulty calls", with_count(sound(), 2))
 }
 
 // "R over 255"
-fn print_reserved() {
+fn print_reserved(rt: &impl Print) -> io::Result<()> {
     let higher = of_rows(first(), with_id(second(), 257), with_id(third(), 258));
-    print_answers(b"R over 255", with_reserved(with_next(higher, 257), 256));
+    print_answers(rt, "R over 255", with_reserved(with_next(higher, 257), 256))
 }
 
 // "a live .. ID outside R + 1 to 65535"
-fn print_live_ids() {
-    print_answers(b"first live ID R", with_first(with_id(first(), 255)));
-    print_answers(b"second live ID R", with_second(with_id(second(), 255)));
-    print_answers(b"third live ID R", with_third(with_id(third(), 255)));
-    print_answers(b"live ID 0", with_third(with_id(third(), 0)));
+fn print_live_ids(rt: &impl Print) -> io::Result<()> {
+    print_answers(rt, "first live ID R", with_first(with_id(first(), 255)))?;
+    print_answers(rt, "second live ID R", with_second(with_id(second(), 255)))?;
+    print_answers(rt, "third live ID R", with_third(with_id(third(), 255)))?;
+    print_answers(rt, "live ID 0", with_third(with_id(third(), 0)))
 }
 
 // "a .. next ID outside R + 1 to 65535"
-fn print_next_ids() {
-    print_answers(b"next ID R", with_next(sound(), 255));
-    print_answers(b"next ID 0", with_next(sound(), 0));
+fn print_next_ids(rt: &impl Print) -> io::Result<()> {
+    print_answers(rt, "next ID R", with_next(sound(), 255))?;
+    print_answers(rt, "next ID 0", with_next(sound(), 0))
 }
 
 // "two equal live IDs"
-fn print_equal_ids() {
+fn print_equal_ids(rt: &impl Print) -> io::Result<()> {
     print_answers(
-        b"first and second ID equal",
+        rt,
+        "first and second ID equal",
         with_second(with_id(second(), 65535)),
-    );
+    )?;
     print_answers(
-        b"first and third ID equal",
+        rt,
+        "first and third ID equal",
         with_third(with_id(third(), 65535)),
-    );
+    )?;
     print_answers(
-        b"second and third ID equal",
+        rt,
+        "second and third ID equal",
         with_third(with_id(third(), 256)),
-    );
+    )
 }
 
 // "two in flight"
-fn print_flights() {
+fn print_flights(rt: &impl Print) -> io::Result<()> {
     let flying = flight(1, CLOCK);
     print_answers(
-        b"first and second in flight",
+        rt,
+        "first and second in flight",
         with_first(with_state(first(), flying)),
-    );
+    )?;
     print_answers(
-        b"second and third in flight",
+        rt,
+        "second and third in flight",
         with_third(with_state(third(), flying)),
-    );
+    )
 }
 
 // "transmissions not 1 to 3"
-fn print_transmissions() {
-    print_transmitted(b"one transmission", 1);
-    print_transmitted(b"no transmission", 0);
-    print_transmitted(b"four transmissions", 4);
-    print_transmitted(b"255 transmissions", 255);
+fn print_transmissions(rt: &impl Print) -> io::Result<()> {
+    print_transmitted(rt, "one transmission", 1)?;
+    print_transmitted(rt, "no transmission", 0)?;
+    print_transmitted(rt, "four transmissions", 4)?;
+    print_transmitted(rt, "255 transmissions", 255)
 }
 
-fn print_transmitted(what: &[u8], transmissions: u8) {
+fn print_transmitted(rt: &impl Print, what: &str, transmissions: u8) -> io::Result<()> {
     print_answers(
+        rt,
         what,
         with_second(with_state(second(), flight(transmissions, CLOCK))),
-    );
+    )
 }
 
 // "a waiting request that wants no response; a time later than the clock"
-fn print_times() {
-    print_answers(b"waiting for nothing", with_first(unwanted(first())));
+fn print_times(rt: &impl Print) -> io::Result<()> {
+    print_answers(rt, "waiting for nothing", with_first(unwanted(first())))?;
     print_answers(
-        b"waiting since later",
+        rt,
+        "waiting since later",
         with_first(with_state(first(), State::Waiting(LATER))),
-    );
+    )
 }
 
 // "a time later than the clock"; no other number comes before 1.
-fn print_late() {
+fn print_late(rt: &impl Print) -> io::Result<()> {
     let late = with_second(with_state(second(), flight(3, LATER)));
-    print_answers(b"sent later", late);
-    print_refusals(b"sent later, faulty calls", late);
+    print_answers(rt, "sent later", late)?;
+    print_refusals(rt, "sent later, faulty calls", late)
 }
 
 // "more than three live"
-fn print_counts() {
-    print_answers(b"four live", with_count(sound(), 4));
-    print_answers(b"2^64 - 1 live", with_count(sound(), usize::MAX));
+fn print_counts(rt: &impl Print) -> io::Result<()> {
+    print_answers(rt, "four live", with_count(sound(), 4))?;
+    print_answers(rt, "2^64 - 1 live", with_count(sound(), usize::MAX))
 }
 
 // "data over 248"
-fn print_lengths() {
-    print_answers(b"first with 249 bytes", with_first(with_len(first(), 249)));
+fn print_lengths(rt: &impl Print) -> io::Result<()> {
     print_answers(
-        b"second with 249 bytes",
+        rt,
+        "first with 249 bytes",
+        with_first(with_len(first(), 249)),
+    )?;
+    print_answers(
+        rt,
+        "second with 249 bytes",
         with_second(with_len(second(), 249)),
-    );
-    print_answers(b"third with 249 bytes", with_third(with_len(third(), 249)));
+    )?;
+    print_answers(
+        rt,
+        "third with 249 bytes",
+        with_third(with_len(third(), 249)),
+    )
 }
 
 // "more than 265 held"
-fn print_held() {
-    print_answers(b"266 held", with_held(sound(), 266));
-    print_answers(b"2^64 - 1 held", with_held(sound(), usize::MAX));
+fn print_held(rt: &impl Print) -> io::Result<()> {
+    print_answers(rt, "266 held", with_held(sound(), 266))?;
+    print_answers(rt, "2^64 - 1 held", with_held(sound(), usize::MAX))
 }

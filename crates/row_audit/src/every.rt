@@ -1,8 +1,8 @@
 // Every row of three records over five IDs, with each number of rows in use and several R: an answer a character.
-use crate::print::{print_number, say};
 use crate::records::live;
 use audit::Finding;
 use endpoint::{LIVE_MAX, Requests};
+use std::io;
 
 const IDS: [u16; 5] = [0, 1, 38, 39, 65535];
 
@@ -11,47 +11,45 @@ const RESERVED: [u64; 5] = [0, 1, 38, 65534, 18446744073709551615];
 // How many rows of three there are, 5 * 5 * 5.
 const ROWS: usize = 125;
 
-pub(crate) fn print_every() {
+pub(crate) fn print_every(rt: &impl Print) -> io::Result<()> {
     let mut i = 0;
     while i < 5 {
-        print_counts(RESERVED[i]);
+        print_counts(rt, RESERVED[i])?;
         i += 1;
     }
+    Ok(())
 }
 
 // The lines of an R: one for each number of rows in use.
-fn print_counts(reserved: u64) {
+fn print_counts(rt: &impl Print, reserved: u64) -> io::Result<()> {
     let mut count = 0;
     while count <= LIVE_MAX {
-        print_answers(reserved, count);
+        print_answers(rt, reserved, count)?;
         count += 1;
     }
+    Ok(())
 }
 
 // A line: R, how many rows are in use, and the answers.
-fn print_answers(reserved: u64, count: usize) {
-    print_head(reserved, count);
+fn print_answers(rt: &impl Print, reserved: u64, count: usize) -> io::Result<()> {
+    print_head(rt, reserved, count)?;
     let mut number = 0;
     while number < ROWS {
-        print_answer(number, count, reserved);
+        print_answer(rt, number, count, reserved)?;
         number += 1;
     }
-    say(b"\n");
+    println!(rt; "")
 }
 
-fn print_head(reserved: u64, count: usize) {
-    say(b"R ");
-    print_number(reserved);
-    say(b", first ");
-    print_number(count as u64);
-    say(b": ");
+fn print_head(rt: &impl Print, reserved: u64, count: usize) -> io::Result<()> {
+    print!(rt; "R {reserved}, first {count}: ")
 }
 
 // An answer: the position, or `-` for none.
-fn print_answer(number: usize, count: usize, reserved: u64) {
+fn print_answer(rt: &impl Print, number: usize, count: usize, reserved: u64) -> io::Result<()> {
     match record_audit::audit_live(row(number, count), reserved) {
-        Finding::At(position) => print_number(position as u64),
-        Finding::None => say(b"-"),
+        Finding::At(position) => print!(rt; "{position}"),
+        Finding::None => print!(rt; "-"),
     }
 }
 

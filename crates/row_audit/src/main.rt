@@ -7,51 +7,52 @@ mod print; // the parts of a line
 mod records; // rows of request records
 
 use crate::every::print_every;
-use crate::print::{print_finding, print_id, print_reserved, say};
+use crate::print::{print_finding, print_id, print_reserved};
 use crate::records::print_records;
+use std::io;
 
-fn main() {
-    print_sound();
-    print_unsound();
-    print_records();
-    print_every();
+fn main(rt: HostRuntime) -> io::Result<()> {
+    print_sound(&rt)?;
+    print_unsound(&rt)?;
+    print_records(&rt)?;
+    print_every(&rt)
 }
 
 // Rows in which there is none.
-fn print_sound() {
+fn print_sound(rt: &impl Print) -> io::Result<()> {
     let few = [39, 40, 41];
-    print_ids(&few[..0], 38);
-    print_ids(&few, 38);
-    print_ids(&few, 0);
+    print_ids(rt, &few[..0], 38)?;
+    print_ids(rt, &few, 38)?;
+    print_ids(rt, &few, 0)?;
     let ends = [256, 65535];
-    print_ids(&ends, 255);
+    print_ids(rt, &ends, 255)
 }
 
 // Rows with an ID that is 0, at most R, or equal to an earlier one.
-fn print_unsound() {
+fn print_unsound(rt: &impl Print) -> io::Result<()> {
     let zero = [39, 0, 41];
-    print_ids(&zero, 38);
-    print_ids(&zero[1..], 0);
+    print_ids(rt, &zero, 38)?;
+    print_ids(rt, &zero[1..], 0)?;
     let reserved = [39, 40, 38];
-    print_ids(&reserved, 38);
-    print_ids(&reserved, 39);
+    print_ids(rt, &reserved, 38)?;
+    print_ids(rt, &reserved, 39)?;
     let neighbours = [39, 40, 40, 39];
-    print_ids(&neighbours, 38);
+    print_ids(rt, &neighbours, 38)?;
     let apart = [39, 40, 41, 39];
-    print_ids(&apart, 38);
+    print_ids(rt, &apart, 38)?;
     let last = [65535];
-    print_ids(&last, 65535);
-    print_ids(&last, 18446744073709551615);
+    print_ids(rt, &last, 65535)?;
+    print_ids(rt, &last, 18446744073709551615)
 }
 
 // The line of a row of IDs.
-fn print_ids(ids: &[u16], reserved: u64) {
-    say(b"ids");
+fn print_ids(rt: &impl Print, ids: &[u16], reserved: u64) -> io::Result<()> {
+    print!(rt; "ids")?;
     let mut rest = ids;
     while 0 < rest.len() {
-        print_id(rest[0]);
+        print_id(rt, rest[0])?;
         rest = &rest[1..];
     }
-    print_reserved(reserved);
-    print_finding(audit::audit_ids(ids, reserved));
+    print_reserved(rt, reserved)?;
+    print_finding(rt, audit::audit_ids(ids, reserved))
 }

@@ -1,32 +1,18 @@
 // The parts of a line.
 use audit::Finding;
-use libc::STDOUT_FILENO;
+use std::io;
 
-pub(crate) fn print_id(id: u16) {
-    say(b" ");
-    print_number(id as u64);
+pub(crate) fn print_id(rt: &impl Print, id: u16) -> io::Result<()> {
+    print!(rt; " {id}")
 }
 
-pub(crate) fn print_reserved(reserved: u64) {
-    say(b", R ");
-    print_number(reserved);
+pub(crate) fn print_reserved(rt: &impl Print, reserved: u64) -> io::Result<()> {
+    print!(rt; ", R {reserved}")
 }
 
-pub(crate) fn print_finding(finding: Finding) {
+pub(crate) fn print_finding(rt: &impl Print, finding: Finding) -> io::Result<()> {
     match finding {
-        Finding::At(position) => {
-            say(b": ");
-            print_number(position as u64);
-            say(b"\n");
-        }
-        Finding::None => say(b": none\n"),
+        Finding::At(position) => println!(rt; ": {position}"),
+        Finding::None => println!(rt; ": none"),
     }
-}
-
-pub(crate) fn print_number(number: u64) {
-    io::print_decimal(STDOUT_FILENO, number);
-}
-
-pub(crate) fn say(text: &[u8]) {
-    io::write_all(STDOUT_FILENO, text);
 }

@@ -1,17 +1,18 @@
 // Rows of request records: the live requests of an endpoint, one waiting, one in flight, one queued.
-use crate::print::{print_finding, print_id, print_reserved, say};
+use crate::print::{print_finding, print_id, print_reserved};
 use command::{Fields, RequestId};
 use endpoint::{LIVE_MAX, Request, Requests, State};
 use link::frame::Frame;
 use message::Seq;
+use std::io;
 
-pub(crate) fn print_records() {
-    print_live(live(39, 40, 41, 3), 38);
-    print_live(live(39, 40, 41, 0), 38);
-    print_live(live(0, 40, 41, 3), 38);
-    print_live(live(39, 38, 41, 3), 38);
-    print_live(live(39, 40, 39, 3), 38);
-    print_live(live(39, 40, 39, 2), 38);
+pub(crate) fn print_records(rt: &impl Print) -> io::Result<()> {
+    print_live(rt, live(39, 40, 41, 3), 38)?;
+    print_live(rt, live(39, 40, 41, 0), 38)?;
+    print_live(rt, live(0, 40, 41, 3), 38)?;
+    print_live(rt, live(39, 38, 41, 3), 38)?;
+    print_live(rt, live(39, 40, 39, 3), 38)?;
+    print_live(rt, live(39, 40, 39, 2), 38)
 }
 
 // Live requests by their IDs, of which the first `count` are in use.
@@ -50,23 +51,24 @@ fn request(id: u16, state: State) -> Request {
 }
 
 // The line of live requests.
-fn print_live(live: Requests, reserved: u64) {
-    say(b"records");
+fn print_live(rt: &impl Print, live: Requests, reserved: u64) -> io::Result<()> {
+    print!(rt; "records")?;
     let mut i = 0;
     while i < LIVE_MAX {
-        print_row(live, i);
+        print_row(rt, live, i)?;
         i += 1;
     }
-    print_reserved(reserved);
-    print_finding(record_audit::audit_live(live, reserved));
+    print_reserved(rt, reserved)?;
+    print_finding(rt, record_audit::audit_live(live, reserved))
 }
 
 // The ID of a row that is in use.
-fn print_row(live: Requests, row: usize) {
+fn print_row(rt: &impl Print, live: Requests, row: usize) -> io::Result<()> {
     if row < LIVE_MAX {
         if row < live.count {
             let q = live.rows[row];
-            print_id(q.id.0);
+            return print_id(rt, q.id.0);
         }
     }
+    Ok(())
 }

@@ -1,12 +1,15 @@
-// Standard input as lines: each is gathered in a lent buffer, and run.
+// What a reader gives, as lines: each is gathered in a lent buffer, and run.
 ghost use Rattle.std.specs.Prelude.{◌≡◌, ◌+◌, ◌≤◌, ◌<◌, length};
 ghost use Rattle.runner.specs.Room.{Holds};
 
 use crate::running::{Ran, Session, no_session, run_line};
 use crate::sheet::{make_room, write_out};
 use endpoint::STORE_LENGTH;
-use libc::STDIN_FILENO;
 use script_bytes::faults::Fault;
+use std::io::{Read, Write};
+
+// How many bytes are read at once.
+const PIECE_LENGTH: usize = 65536;
 
 // How far a script is: the session, the number of the line that is gathered and how many bytes of it there are, how many bytes of
 // answers wait, and what comes next.
@@ -19,7 +22,7 @@ pub(crate) struct Progress {
     pub(crate) next: Next,
 }
 
-#[derive(Drop)]
+#[derive(Clone, Copy)]
 pub(crate) enum Next {
     Read,
     End,
@@ -44,7 +47,9 @@ pub(crate) fn start() -> Progress
 
 // Reads until the input ends or something is wrong. A proved loop has to end, and nothing says that an input does: so it counts
 // down from a number that no run uses up.
-pub(crate) fn run_all(
+pub(crate) fn run_all<R: Read, W: Write>(
+    input: &mut R,
+    output: &mut W,
     progress: Progress,
     store: &mut [u8; STORE_LENGTH],
     line: &mut [u8],
@@ -55,7 +60,7 @@ pub(crate) fn run_all(
     let mut progress = progress;
     let mut turns = u64::MAX;
     while turns > 0 {
-        progress = run_some(progress, store, line, out);
+        progress = run_some(input, output, progress, store, line, out);
         let next = progress.next;
         let Next::Read = next else {
             return progress;
@@ -66,7 +71,9 @@ pub(crate) fn run_all(
 }
 
 // Reads once, runs the lines that came to their end, and writes their answers.
-fn run_some(
+fn run_some<R: Read, W: Write>(
+    input: &mut R,
+    output: &mut W,
     progress: Progress,
     store: &mut [u8; STORE_LENGTH],
     line: &mut [u8],
@@ -75,22 +82,21 @@ fn run_some(
     requires { Holds progress line.old out.old }
     ensures { Holds result line.new out.new }
 {
-    let mut piece = io::large_buffer();
-    let got = libc::read(STDIN_FILENO, &mut piece);
-    if got < 0 {
+    let mut piece = [0; PIECE_LENGTH];
+    let Ok(n) = input.read(&mut piece) else {
         return with_next(progress, Next::ReadFailed);
+    };
+    if n == 0 {
+        let last = run_last(output, progress, store, line, out);
+        return written(output, last, out);
     }
-    if got == 0 {
-        let last = run_last(progress, store, line, out);
-        return written(last, out);
-    }
-    let n = io::count(got, &piece);
-    let after = run_piece(progress, store, line, out, &piece[..n]);
-    written(after, out)
+    let after = run_piece(output, progress, store, line, out, &piece[..n]);
+    written(output, after, out)
 }
 
 // Gathers the lines of a piece, and runs each that came to its end.
-fn run_piece(
+fn run_piece<W: Write>(
+    output: &mut W,
     progress: Progress,
     store: &mut [u8; STORE_LENGTH],
     line: &mut [u8],
@@ -108,7 +114,7 @@ fn run_piece(
         if rest.len() <= end {
             return progress;
         }
-        progress = run_gathered(progress, store, line, out);
+        progress = run_gathered(output, progress, store, line, out);
         let next = progress.next;
         let Next::Read = next else {
             return progress;
@@ -127,7 +133,8 @@ fn after_end(end: usize, len: usize) -> usize
 }
 
 // The last line, which may lack its end.
-fn run_last(
+fn run_last<W: Write>(
+    output: &mut W,
     progress: Progress,
     store: &mut [u8; STORE_LENGTH],
     line: &[u8],
@@ -136,7 +143,7 @@ fn run_last(
     requires { Holds progress line.now out.old }
     ensures { Holds result line.now out.new }
 {
-    let after = run_gathered(progress, store, line, out);
+    let after = run_gathered(output, progress, store, line, out);
     let next = after.next;
     let Next::Read = next else {
         return after;
@@ -160,7 +167,8 @@ fn gather(progress: Progress, line: &mut [u8], more: &[u8]) -> Progress
 }
 
 // Runs the line that is gathered, unless it is too long.
-fn run_gathered(
+fn run_gathered<W: Write>(
+    output: &mut W,
     progress: Progress,
     store: &mut [u8; STORE_LENGTH],
     line: &[u8],
@@ -173,7 +181,7 @@ fn run_gathered(
     let Next::Read = next else {
         return progress;
     };
-    let sheet = make_room(out, progress.used);
+    let sheet = make_room(output, out, progress.used);
     let gathered = progress.gathered;
     let session = progress.session;
     if !sheet.fine {
@@ -222,11 +230,11 @@ fn number_after(number: u64) -> u64 {
 }
 
 // The answers that wait are written.
-fn written(progress: Progress, out: &[u8]) -> Progress
+fn written<W: Write>(output: &mut W, progress: Progress, out: &[u8]) -> Progress
     requires { progress.used ≤ length out.now }
     ensures { (result.gathered ≡ progress.gathered) × (result.used ≡ 0) }
 {
-    let sheet = write_out(out, progress.used);
+    let sheet = write_out(output, out, progress.used);
     let mut after = progress;
     after.used = sheet.used;
     if !sheet.fine {

@@ -14,7 +14,7 @@ pub const LENT_MAX: usize = 4096;
 const BYTE_MAX: u64 = 255;
 
 // A line: nothing to do, a call with its arguments, or what is wrong.
-#[derive(Drop)]
+#[derive(Clone, Copy)]
 pub enum Call {
     Pass,
     Open {

@@ -1,5 +1,5 @@
 // What is wrong with a script.
-#[derive(Drop)]
+#[derive(Clone, Copy)]
 pub enum Fault {
     Nothing,
     // the line does not begin with a call

@@ -2,6 +2,6 @@
 // the sample session and its answers.
 #![tactic(auto)]
 
-fn main() {
-    runner::run_standard_input();
+fn main(rt: HostRuntime) {
+    runner::run_standard_input(&rt);
 }

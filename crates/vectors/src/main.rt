@@ -2,40 +2,34 @@
 // The file `stdout` beside this folder is what the independent implementation under `tests/` wrote for the same bytes.
 #![tactic(auto)]
 
-use libc::STDOUT_FILENO;
+use std::io;
 
-fn main() {
+fn main(rt: HostRuntime) -> io::Result<()> {
     // the CRC catalogue's check value, and no bytes
-    print_vector(b"123456789");
-    print_vector(b"");
+    print_vector(&rt, b"123456789")?;
+    print_vector(&rt, b"")?;
     // AUTOSAR, Specification of CRC Routines, 16-bit CCITT
-    print_vector(b"\x00\x00\x00\x00");
-    print_vector(b"\xF2\x01\x83");
-    print_vector(b"\x0F\xAA\x00\x55");
-    print_vector(b"\x00\xFF\x55\x11");
-    print_vector(b"\x33\x22\x55\xAA\xBB\xCC\xDD\xEE\xFF");
-    print_vector(b"\x92\x6B\x55");
-    print_vector(b"\xFF\xFF\xFF\xFF");
+    print_vector(&rt, b"\x00\x00\x00\x00")?;
+    print_vector(&rt, b"\xF2\x01\x83")?;
+    print_vector(&rt, b"\x0F\xAA\x00\x55")?;
+    print_vector(&rt, b"\x00\xFF\x55\x11")?;
+    print_vector(&rt, b"\x33\x22\x55\xAA\xBB\xCC\xDD\xEE\xFF")?;
+    print_vector(&rt, b"\x92\x6B\x55")?;
+    print_vector(&rt, b"\xFF\xFF\xFF\xFF")
 }
 
-fn print_vector(bytes: &[u8]) {
+fn print_vector(rt: &impl Print, bytes: &[u8]) -> io::Result<()> {
     if bytes.len() == 0 {
-        io::write_all(STDOUT_FILENO, b"-");
+        print!(rt; "-")?;
     }
-    print_bytes(bytes);
-    io::write_all(STDOUT_FILENO, b" ");
-    io::print_hex(STDOUT_FILENO, checksum::checksum(bytes) as u64, 4);
-    io::write_all(STDOUT_FILENO, b"\n");
+    print_bytes(rt, bytes)?;
+    let sum = checksum::checksum(bytes);
+    println!(rt; " {sum:04x}")
 }
 
-fn print_bytes(bytes: &[u8]) {
-    let mut rest = bytes;
-    while 0 < rest.len() {
-        print_byte(rest[0]);
-        rest = &rest[1..];
+fn print_bytes(rt: &impl Print, bytes: &[u8]) -> io::Result<()> {
+    for byte in bytes {
+        print!(rt; "{byte:02x}")?;
     }
-}
-
-fn print_byte(byte: u8) {
-    io::print_hex(STDOUT_FILENO, byte as u64, 2);
+    Ok(())
 }
