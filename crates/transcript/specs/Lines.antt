@@ -89,7 +89,7 @@ poll_text (polling.Refused n) frame = named (ascii "poll refused ") n
 poll_text (polling.Sent len) frame = lent_text (ascii "sent ") len frame
 poll_text (polling.Ended e) frame = ending_text e
 poll_text (polling.Quiet ms) frame = named (ascii "quiet ") ms
-poll_text polling.NoDeadline frame = ascii "no_deadline"
+poll_text polling.NoDeadline frame = ascii "no-deadline"
 
 -- the end of a line, and whether bytes were touched that should not have been
 unfoldable pub end_text : Bool → List ℕ

@@ -18,7 +18,7 @@ fields_text f = address_text f ++ (named (ascii " ") f.iid ++ named (ascii " ") 
 unfoldable pub cause_text : Cause → List ℕ
 cause_text Acknowledged = ascii " acknowledged"
 cause_text Response = ascii " response"
-cause_text NoResponse = ascii " no_response_law"
+cause_text NoResponse = ascii " no-response"
 cause_text NoAcknowledgement = ascii " no-acknowledgement"
 
 -- an ending
