@@ -1,7 +1,7 @@
 //! The table of what is assumed of C: each program and each archive for C, with the number of contracts of C functions that its check
 //! reached. The check says it where it is made in this run; of a program that an earlier run proved the log says nothing.
 //!
-//! A row is `` | `program`, `program` | 8: 6 of `libc`, 2 of `os` | ``, or `0`.
+//! A row is `` | `program`, `program` | 8: 6 of `libc`, `os::f`, `os::g` | ``, or `0`.
 
 use crate::comparisons::Comparisons;
 use crate::gate::Gate;
@@ -39,14 +39,14 @@ pub fn check(document: &str, gate: &Gate, compared: &Comparisons) -> Result<(), 
     Ok(())
 }
 
-/// `8: 6 of libc, 2 of os`, or `0`.
-fn in_words(assumed: &[(String, usize)]) -> String {
-    let total: usize = assumed.iter().map(|(_, n)| n).sum();
-    let parts: Vec<String> = assumed.iter().map(|(library, n)| format!("{n} of {library}")).collect();
-    if parts.is_empty() {
+/// `8: 6 of libc, os::f, os::g`, or `0`.
+fn in_words(assumed: &[(usize, String)]) -> String {
+    let total: usize = assumed.iter().map(|(n, _)| n).sum();
+    let names: Vec<&str> = assumed.iter().map(|(_, names)| names.as_str()).collect();
+    if names.is_empty() {
         return total.to_string();
     }
-    format!("{total}: {}", parts.join(", "))
+    format!("{total}: {}", names.join(", "))
 }
 
 #[cfg(test)]
@@ -54,7 +54,7 @@ mod tests {
     use super::*;
     use crate::gate::{self, tests::LOG};
 
-    const TABLE: &str = "| Program or archive | Assumed |\n|---|---|\n| `shown`, `other` | 7: 6 of `libc`, 1 of `os` |\n| `liba.a` | 0 |\n";
+    const TABLE: &str = "| Program or archive | Assumed |\n|---|---|\n| `shown`, `other` | 7: 6 of `libc`, `os::c::rattle_errno` |\n| `liba.a` | 0 |\n";
 
     fn checked(table: &str, log: &str) -> Result<(), String> {
         let compared = Comparisons { archives: vec![("liba.a".into(), 0)], ..Comparisons::default() };
@@ -64,12 +64,13 @@ mod tests {
     #[test]
     fn a_table_that_is_right() {
         assert_eq!(checked(TABLE, LOG), Ok(()));
-        assert_eq!(table(TABLE)[1], ("other".to_string(), "7: 6 of libc, 1 of os".to_string()));
+        assert_eq!(table(TABLE)[1], ("other".to_string(), "7: 6 of libc, os::c::rattle_errno".to_string()));
     }
 
     #[test]
     fn another_number_is_refused() {
-        assert!(checked(&TABLE.replace("7: 6", "8: 7"), LOG).unwrap_err().contains("shown assumes 8: 7 of libc, 1 of os, and its check reached 7: 6"));
+        let said = checked(&TABLE.replace("7: 6", "8: 7"), LOG).unwrap_err();
+        assert!(said.contains("shown assumes 8: 7 of libc, os::c::rattle_errno, and its check reached 7: 6 of libc, os"), "{said}");
         assert!(checked(&TABLE.replace("| 0 |", "| 2: 2 of `libc` |"), LOG).unwrap_err().contains("liba.a assumes 2: 2 of libc, and its check reached 0"));
     }
 

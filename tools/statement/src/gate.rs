@@ -10,9 +10,10 @@ use crate::functions;
 pub struct Checked {
     /// The paths of the functions proved.
     pub functions: Vec<String>,
-    /// The contracts of C functions that are assumed, by the library that declares them: those that the check reached. A library's check
-    /// counts none; a program or an archive that links it counts what is reached.
-    pub assumed: Vec<(String, usize)>,
+    /// The contracts of C functions that are assumed, those that the check reached: for each library that declares some their number, and
+    /// their names, or `N of LIBRARY` where the prover names the first ones alone. A library's check counts none; a program or an
+    /// archive that links it counts what is reached.
+    pub assumed: Vec<(usize, String)>,
 }
 
 #[derive(Clone, Debug, PartialEq)]
@@ -152,11 +153,12 @@ fn function_in(line: &str) -> Option<String> {
     said.split(',').next().is_some_and(|s| s == "proved").then(|| path.to_string())
 }
 
-/// `libc: libc::heap::rattle_alloc, libc::heap::rattle_dealloc, ... (6 of the 128 declared)`, or `os: none reached of the 22 declared`.
-fn assumed_in(rest: &str) -> Option<(String, usize)> {
+/// `libc: libc::read, libc::write (2 of the 128 declared)`, also with `...` for some names, or `os: none reached of the 22 declared`.
+fn assumed_in(rest: &str) -> Option<(usize, String)> {
     let (library, names) = rest.split_once(": ")?;
-    let count = names.rsplit_once('(')?.1.split(' ').next()?.parse().ok()?;
-    Some((library.to_string(), count))
+    let (names, count) = names.rsplit_once(" (")?;
+    let count = count.split(' ').next()?.parse().ok()?;
+    Some((count, if names.ends_with("...") { format!("{count} of {library}") } else { names.to_string() }))
 }
 
 /// `rt: NAME is kept: an earlier run on this machine proved the same files over the same libraries`.
@@ -233,7 +235,7 @@ rt: ok; handles allowed: none; must-fail edits: 2 refused; done in this run: 2 o
         assert_eq!(gate.crates[0], Crate { name: "one".into(), checked: Some(Checked { functions, assumed: Vec::new() }) });
         let shown = gate.crates[2].checked.as_ref().unwrap();
         assert_eq!(shown.functions, ["shown::main"]);
-        assert_eq!(shown.assumed, [("libc".to_string(), 6), ("os".to_string(), 1)]);
+        assert_eq!(shown.assumed, [(6, "6 of libc".to_string()), (1, "os::c::rattle_errno".to_string())]);
         assert_eq!(gate.edits[0].place.as_deref(), Some("proofs/f/Answers.antt:9:84"));
         assert_eq!((gate.edits[1].place.clone(), gate.edits[1].by), (None, Refused::Fact));
         assert_eq!(gate.programs, ["shown"]);

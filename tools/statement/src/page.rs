@@ -268,13 +268,13 @@ mod tests {
     fn rows_of_crates() {
         let gate = gate::read(gate::tests::LOG).unwrap();
         let code = [("crates/one/src/lib.rt", "fn f() {}\nfn g() {}\n"), ("crates/shown/src/main.rt", "fn main() {}\n")];
-        let assurance = "| Program or archive | Assumed |\n|---|---|\n| `shown` | 7: 6 of `libc`, 1 of `os` |\n";
+        let assurance = "| Program or archive | Assumed |\n|---|---|\n| `shown` | 7: 6 of `libc`, `os::f` |\n";
         let listed = Listed { text: "# NAME: uses\none:\nlow:\nshown: one\n", known: &tree_of(&code), assurance };
         let mut page = String::new();
         crates(&mut page, &gate, &Comparisons::default(), &listed);
         let rows: Vec<&str> = page.lines().skip(3).collect();
         assert_eq!(page.lines().nth(1), Some("CRATES: 3 proved, 3 functions; assumed contracts of C functions"));
         assert_eq!(rows[0], "one                  library   2 functions  0 assumed");
-        assert_eq!(rows[2], "shown                program    1 function  7 assumed: 6 of libc, 1 of os");
+        assert_eq!(rows[2], "shown                program    1 function  7 assumed: 6 of libc, os::f");
     }
 }
