@@ -4,7 +4,7 @@ use Prim.Native.Nat.{ℕ, ◌≤◌}
 use mathlib.Core.Bool.{false}
 use mathlib.Core.List.{List}
 use mathlib.Core.Option.{none}
-use mathlib.Core.Path.{◌≡◌, subst, ap, ◌∙◌}
+use mathlib.Core.Path.{sym, ◌≡◌, subst, ap, ◌∙◌}
 use borrow.Author.Tests.{le-ltb}
 use Rattle.ledger.specs.Parts.{live_max, Ledger}
 use Rattle.ledger.specs.Answers.{Answer, Done}
@@ -42,7 +42,7 @@ module _ {given : ℕ} {begun : opening.Opened} {calls : List Call} {outcomes : 
 
     stepped : step live_max (ledger_of e store) c ≡ accepts l c
     unfolding step
-    stepped = rw stands (ap (answers_to l c) accepted)
+    stepped = subst (λ (k : Ledger). step live_max k c ≡ accepts l c) (sym stands) (ap (answers_to l c) accepted)
 
     pub comes : {d : Done} → accepts l c ≡ d → Comes r d
     comes {d} same =
