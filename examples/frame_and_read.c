@@ -2,7 +2,7 @@
  * Frames a command, damages one byte of it as a noisy line would, and lists
  * what the reader finds in the bytes that arrive. A place to start from.
  *
- *     cc -Iinclude examples/frame_and_read.c target/staticlib/libc_api.a
+ *     cc -Iinclude examples/frame_and_read.c crates/c_api/out/libc_api.a
  *
  * frame_and_read.stdout beside this file is what it prints.
  */

@@ -4,7 +4,7 @@
  *
  * Link with libc_api.a (x86-64 Linux):
  *
- *     cc -Iinclude program.c target/staticlib/libc_api.a
+ *     cc -Iinclude program.c crates/c_api/out/libc_api.a
  *
  * Every function here is compiled from code that was proved to meet its
  * contract, for every input that the rules below allow:

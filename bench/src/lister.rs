@@ -19,9 +19,9 @@ const ROUNDS: usize = 3;
 
 /// What to print. To be called before anything large: what this process has counts as the program's (`start`).
 pub fn report() -> io::Result<String> {
-    let program = Path::new(env!("CARGO_MANIFEST_DIR")).join("../target/bin/lister");
+    let program = Path::new(env!("CARGO_MANIFEST_DIR")).join("../crates/lister/out/lister");
     if !program.exists() {
-        return Ok(String::from("lister: LEFT OUT, as target/bin/lister is missing"));
+        return Ok(String::from("lister: LEFT OUT, as crates/lister/out/lister is missing"));
     }
     let (_, short) = measure(&program, &Capture::new(SHORT * MIB)?)?;
     let (time, long) = measure(&program, &Capture::new(LONG * MIB)?)?;

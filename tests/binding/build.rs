@@ -1,12 +1,12 @@
-//! Links the archives that `rt staticlib c_api` and `rt staticlib line_probe` wrote.
+//! Links the archives that `rt lib` wrote in the folders of `c_api` and `line_probe`.
 
 use std::path::Path;
 
 fn main() {
     let here = std::env::var("CARGO_MANIFEST_DIR").expect("cargo says where this crate is");
-    let folder = Path::new(&here).join("../../target/staticlib");
-    println!("cargo:rustc-link-search=native={}", folder.display());
     for archive in ["c_api", "line_probe"] {
+        let folder = Path::new(&here).join(format!("../../crates/{archive}/out"));
+        println!("cargo:rustc-link-search=native={}", folder.display());
         println!(
             "cargo:rerun-if-changed={}",
             folder.join(format!("lib{archive}.a")).display()

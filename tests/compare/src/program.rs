@@ -8,7 +8,7 @@ use std::path::{Path, PathBuf};
 use std::process::{Command, Output, Stdio};
 use std::thread;
 
-/// A program that `rt ci` linked, by its name.
+/// A program that `rt ci` left in its crate's folder, by its name.
 #[derive(Clone, Copy, Debug)]
 pub struct Program(&'static str);
 
@@ -25,9 +25,11 @@ pub fn file(folder: &str, name: &str, bytes: &[u8]) -> File {
 impl Program {
     pub fn path(self) -> PathBuf {
         let path = Path::new(env!("CARGO_MANIFEST_DIR"))
-            .join("../../target/bin")
+            .join("../../crates")
+            .join(self.0)
+            .join("out")
             .join(self.0);
-        assert!(path.exists(), "target/bin/{} is missing: run .ci/run", self.0);
+        assert!(path.exists(), "crates/{0}/out/{0} is missing: run .ci/run", self.0);
         path
     }
 

@@ -45,10 +45,9 @@ fn assumed_in(line: &str) -> usize {
     line.split(' ').find_map(|w| w.strip_prefix("axioms=")).and_then(|n| n.parse().ok()).unwrap_or(0)
 }
 
-/// `rt: target/staticlib/libNAME.a has the functions of ..`.
+/// `archive: libNAME.a`, which `tests/run` says behind the check by which `rt lib` made it.
 fn archive_in(line: &str) -> Option<String> {
-    let (name, _) = line.strip_prefix("rt: target/staticlib/")?.split_once(" has the functions of ")?;
-    Some(name.to_string())
+    line.strip_prefix("archive: ").map(str::to_string)
 }
 
 #[cfg(test)]
@@ -66,8 +65,8 @@ mod tests {
 
     #[test]
     fn archives_and_what_they_assume() {
-        let log = "logic=proved functions=9 target=x\nrt: target/staticlib/liba.a has the functions of a\n\
-                   logic=proved functions=9 axioms=2 target=x\nrt: target/staticlib/libb.a has the functions of b\n";
+        let log = "logic=proved functions=3 sum=0\nlogic=proved functions=9 target=x\narchive: liba.a\n\
+                   logic=proved functions=3 sum=0\nlogic=proved functions=9 axioms=2 target=x\narchive: libb.a\n";
         assert_eq!(read(log).archives, [("liba.a".to_string(), 0), ("libb.a".to_string(), 2)]);
     }
 

@@ -18,16 +18,16 @@ pub const DEMANDS: [Demand; 3] = [
     Demand {
         sentence: "Any bytes, clocks and buffers in any order: no call traps, each refusal comes exactly when the table says, and a \
                    refused call changes nothing.",
-        theorems: &[(CLAIMS, &["refused-where", "refused-only", "refused-numbers", "open-answers", "never-malformed"])],
+        theorems: &[(CLAIMS, &["refused_where", "refused_only", "refused_numbers", "open_answers", "never_malformed"])],
     },
     Demand {
         sentence: "Messages are those of the protocol text: what was written is read, what was read is written, and no cut of the bytes \
                    changes an item.",
         theorems: &[
-            (MESSAGES, &["write-then-read", "read-then-write"]),
-            (C_FUNCTIONS, &["write-then-read", "read-then-write"]),
-            (LINES, &["cuts", "cuts-from"]),
-            (CLAIMS, &["receives-items", "heard-as-joined", "same-bytes-same-items"]),
+            (MESSAGES, &["write_then_read", "read_then_write"]),
+            (C_FUNCTIONS, &["write_then_read", "read_then_write"]),
+            (LINES, &["cuts", "cuts_from"]),
+            (CLAIMS, &["receives_items", "heard_as_joined", "same_bytes_same_items"]),
         ],
     },
     Demand {
@@ -35,7 +35,7 @@ pub const DEMANDS: [Demand; 3] = [
                    once, frames go out at most three times unchanged, and under the clock rule every request ends in time.",
         theorems: &[(
             CLAIMS,
-            &["demand-3", "extends", "begins", "witness", "at-most-once", "at-most-three-equal", "nobody-forgotten", "ends-while-polled"],
+            &["demand_3", "extends", "begins", "witness", "at_most_once", "at_most_three_equal", "nobody_forgotten", "ends_while_polled"],
         )],
     },
 ];
@@ -45,9 +45,7 @@ impl Demand {
     pub fn is_proved(&self, gate: &Gate) -> Result<(), String> {
         for (file, names) in self.theorems {
             let (name, path) = tree::in_crates(file);
-            if !gate.crates.iter().any(|c| c.name == name) {
-                return Err(format!("the gate did not prove the crate of {path}"));
-            }
+            gate.of(name).map_err(|why| format!("{path}: {why}"))?;
             let text = tree::text(&path)?;
             if let Some(lost) = names.iter().find(|n| !tree::declares(&text, n)) {
                 return Err(format!("{path} has no theorem {lost}"));

@@ -26,6 +26,11 @@ impl Place<'_> {
         self.head_in(code).is_some()
     }
 
+    /// Whether it is a method, which may stand in another file than its type.
+    pub fn is_method(&self) -> bool {
+        self.type_name.is_some()
+    }
+
     /// The code from the line on that begins the function: of a method inside its type's `impl`, of another one not indented.
     fn head_in<'c>(&self, code: &'c str) -> Option<(Head<'c>, &'c str)> {
         let mut inside = None;
@@ -46,7 +51,7 @@ impl Place<'_> {
     }
 }
 
-/// How a function begins: `fn name(`, `pub fn name(`, `#[no_mangle] pub extern "C" fn name(`.
+/// How a function begins: `fn name(`, `pub fn name(`, `pub const fn name(`, `#[unsafe(no_mangle)] pub extern "C" fn name(`.
 struct Head<'a> {
     is_public: bool,
     name: &'a str,
@@ -55,12 +60,62 @@ struct Head<'a> {
 impl Head<'_> {
     fn of(line: &str) -> Option<Head<'_>> {
         let line = line.trim_start();
-        let line = line.strip_prefix("#[no_mangle] ").unwrap_or(line);
+        let line = line.strip_prefix("#[unsafe(no_mangle)] ").unwrap_or(line);
         let public = line.strip_prefix("pub ");
-        let rest = public.or(line.strip_prefix("pub(crate) ")).unwrap_or(line);
-        let rest = rest.strip_prefix("extern \"C\" ").unwrap_or(rest).strip_prefix("fn ")?;
-        let name = rest.split(['(', '<']).next()?;
+        let mut rest = public.or(line.strip_prefix("pub(crate) ")).or(line.strip_prefix("pub(super) ")).unwrap_or(line);
+        for word in ["const ", "unsafe ", "extern \"C\" "] {
+            rest = rest.strip_prefix(word).unwrap_or(rest);
+        }
+        let name = rest.strip_prefix("fn ")?.split(['(', '<']).next()?;
         Some(Head { is_public: public.is_some(), name })
+    }
+}
+
+/// Whether two paths are of one function. A method's path may go by the module of its type or by that of its code.
+pub fn is_same(one: &str, other: &str) -> bool {
+    let method_of = |path: &str| {
+        let parts: Vec<&str> = path.split("::").collect();
+        let (first, last) = (parts.first()?, parts.len().checked_sub(2).map(|at| &parts[at..])?);
+        last[0].starts_with(char::is_uppercase).then(|| format!("{first}::{}", last.join("::")))
+    };
+    one == other || method_of(one).is_some_and(|m| method_of(other) == Some(m))
+}
+
+/// The paths of the functions that a file has, tests aside: what the prover has to prove of it.
+pub fn paths_in(file: &str, code: &str) -> Vec<String> {
+    let module = module_of(file);
+    let mut paths = Vec::new();
+    let mut inside = String::new();
+    let mut in_tests = false;
+    for line in code.lines() {
+        if let Some(of) = line.strip_prefix("impl ") {
+            inside = format!("::{}", type_in(of));
+        } else if line.starts_with("#[cfg(test)]") {
+            in_tests = true;
+        } else if line.starts_with('}') {
+            inside.clear();
+            in_tests = false;
+        }
+        if let Some(head) = Head::of(line).filter(|_| !in_tests) {
+            paths.push(format!("{module}{inside}::{}", head.name));
+        }
+    }
+    paths
+}
+
+/// `crates/one/src/two.rt` is `one::two`, and a crate's root file is the crate.
+fn module_of(file: &str) -> String {
+    let inside = file.strip_prefix("crates/").unwrap_or(file).trim_end_matches(".rt");
+    let parts = inside.split('/').enumerate().filter(|(at, part)| *at != 1 && !(*at == 2 && matches!(*part, "lib" | "main")));
+    parts.map(|(_, part)| part).collect::<Vec<_>>().join("::")
+}
+
+/// `Type {` is `Type`, and `Trait for Type {` is `TypeTrait`, as the prover names it.
+fn type_in(of: &str) -> String {
+    let name = |text: &str| text.trim().split([' ', '<', '{', '(']).next().unwrap_or("").rsplit("::").next().unwrap_or("").to_string();
+    match of.split_once(" for ") {
+        Some((of_trait, of_type)) => name(of_type) + &name(of_trait),
+        None => name(of),
     }
 }
 
@@ -93,7 +148,9 @@ fn contract_in(behind_name: &str) -> Option<Contract> {
     loop {
         let (before, _) = rest.split_once('{')?;
         let (inside, behind) = enclosed(rest, '{', '}')?;
-        match before.split_whitespace().find(|w| matches!(*w, "requires" | "ensures")) {
+        // a starred clause says something of memory, and counts as well
+        let kinds = before.split_whitespace().map(|w| w.trim_end_matches('*'));
+        match kinds.into_iter().find(|w| matches!(*w, "requires" | "ensures")) {
             Some("requires") => contract.requires.push(inside.to_string()),
             Some(_) => contract.ensures.push(inside.to_string()),
             None => {
@@ -138,16 +195,16 @@ mod tests {
     use super::*;
 
     const CODE: &str = "\
-// fn first(x: u8) ensures { λ r. ⌜ Wrong ⌝ }
+// fn first(x: u8) ensures { Wrong }
 pub fn first(
     bytes: &[u8],
     f: (u8, u8),
 ) -> (u8, u8)
-    requires { ⌜ Asked ⌝ } // Commented
-    ensures bounded { λ r. ⌜ Bounded {x} r ⌝ }
+    requires { Asked } // Commented
+    ensures bounded { Bounded {x} result }
     -- Noted
-    ensures { λ r. ⌜ promise.Answered r {- Hidden -}
-        (now (bytes .exit)) ⌝ }
+    ensures list { promise.Answered result {- Hidden -}
+        bytes.now }
 {
     second(Body { x: 0 })
 }
@@ -157,23 +214,35 @@ pub fn bare() -> u8 {
 }
 
 fn own(x: u8)
-    ensures { ⌜ Own ⌝ }
+    ensures { Own }
 {
 }
 
 impl Frame {
     pub fn first<'a>(self) -> Frame
-        ensures { λ r. ⌜ Framed ⌝ }
+        ensures { Framed }
     {
         self
     }
 }
 
-#[no_mangle] pub extern \"C\" fn exported(x: u8) -> u8
-    ensures { λ r. ⌜ Exported ⌝ }
+#[unsafe(no_mangle)] pub extern \"C\" fn exported(x: u8) -> u8
+    ensures { Exported }
 {
     x
 }
+
+impl Shown for Frame {
+    fn show(&self) {}
+}
+
+#[cfg(test)]
+mod tests {
+    #[test]
+    fn shows() {}
+}
+
+fn last() {}
 ";
 
     fn of(path: &str) -> Result<Contract, String> {
@@ -190,26 +259,43 @@ impl Frame {
     }
 
     #[test]
+    fn paths_of_methods() {
+        assert!(is_same("one::two::Type::f", "one::Type::f") && is_same("one::f", "one::f"));
+        for (one, other) in [("one::Type::f", "one::Type::g"), ("one::Type::f", "two::Type::f"), ("one::two::f", "one::f"), ("one::f", "one::Type::f")] {
+            assert!(!is_same(one, other), "{one} {other}");
+        }
+    }
+
+    #[test]
     fn public_functions() {
         assert_eq!(public_in(CODE), ["first", "bare", "first", "exported"]);
-        let code = "pub fn a(x: u8)\n    pub fn b<'a>(x: &'a u8)\nfn c()\npub(crate) fn d()\n#[no_mangle] pub extern \"C\" fn e(";
-        assert_eq!(public_in(code), ["a", "b", "e"]);
+        let code = "pub fn a(x: u8)\n    pub fn b<'a>(x: &'a u8)\nfn c()\npub(crate) fn d()\n#[unsafe(no_mangle)] pub extern \"C\" fn e(\npub const fn f()";
+        assert_eq!(public_in(code), ["a", "b", "e", "f"]);
+    }
+
+    #[test]
+    fn every_function_by_its_path() {
+        let paths = paths_in("crates/one/src/two.rt", CODE);
+        let wanted = ["first", "bare", "own", "Frame::first", "exported", "FrameShown::show", "last"];
+        assert_eq!(paths, wanted.map(|name| format!("one::two::{name}")));
+        assert_eq!(paths_in("crates/one/src/main.rt", "fn main() {}\n"), ["one::main"]);
+        assert_eq!(paths_in("crates/one/src/a/b.rt", "fn c() {}\n"), ["one::a::b::c"]);
     }
 
     #[test]
     fn every_clause_and_no_comment() {
         let first = of("one::first").unwrap();
-        assert_eq!(first.requires, [" ⌜ Asked ⌝ "]);
+        assert_eq!(first.requires, [" Asked "]);
         assert_eq!(first.ensures.len(), 2);
-        assert!(first.ensures[0].contains("Bounded {x} r"));
-        assert!(first.ensures[1].contains("Answered") && first.ensures[1].contains(".exit"));
+        assert!(first.ensures[0].contains("Bounded {x} result"));
+        assert!(first.ensures[1].contains("Answered") && first.ensures[1].contains("bytes.now"));
         assert!(["Wrong", "Commented", "Noted", "Hidden", "Body"].iter().all(|w| !first.ensures.concat().contains(w)));
     }
 
     #[test]
     fn exactly_that_function() {
-        assert_eq!(of("one::Frame::first").unwrap().ensures, [" λ r. ⌜ Framed ⌝ "]);
-        assert_eq!(of("one::exported").unwrap().ensures, [" λ r. ⌜ Exported ⌝ "]);
+        assert_eq!(of("one::Frame::first").unwrap().ensures, [" Framed "]);
+        assert_eq!(of("one::exported").unwrap().ensures, [" Exported "]);
         assert_eq!(of("one::bare"), Ok(Contract::default()));
         assert!(Place::of("one::own").unwrap().is_in(CODE) && !Place::of("one::Seen::first").unwrap().is_in(CODE));
         assert!(of("one::own").unwrap_err().contains("no public function own"));
@@ -217,7 +303,14 @@ impl Frame {
 
     #[test]
     fn a_clause_of_another_kind() {
-        let code = "pub fn f(x: u8) -> u8\n    decreases { x }\n    requires { ⌜ Asked ⌝ }\n{\n}\n";
+        let code = "pub fn f(x: u8) -> u8\n    decreases { x }\n    requires { Asked }\n{\n}\n";
         assert!(contract(code, &Place::of("one::f").unwrap()).unwrap_err().contains("cannot be read"));
+    }
+
+    #[test]
+    fn a_starred_clause() {
+        let code = "pub fn f(x: *const u8) -> u8\n    requires* { Lent }\n    ensures* { Given }\n{\n}\n";
+        let found = contract(code, &Place::of("one::f").unwrap()).unwrap();
+        assert_eq!((found.requires, found.ensures), (vec![" Lent ".to_string()], vec![" Given ".to_string()]));
     }
 }

@@ -3,6 +3,7 @@
 //! It reads what the gate left in `.ci/` (`gate.record`, `rt-ci.log`, `tests.log`) and the tree itself, and decides nothing that
 //! the gate did not decide.
 
+mod assumptions;
 mod assurance;
 mod comparisons;
 mod demands;
@@ -44,11 +45,14 @@ fn main() -> ExitCode {
 
 /// The release list, the assurance's tables and the names in documents, held to the tree and to the edits that the gate tried.
 fn documents() -> Result<String, String> {
-    let tried = gate::read(&tree::text(".ci/rt-ci.log")?)?.refused();
-    let releases = releases::check(&tree::text("docs/RELEASES.md")?, &tried)?;
+    let gate = gate::read(&tree::text(".ci/rt-ci.log")?)?;
+    let compared = comparisons::read(&tree::text(".ci/tests.log").unwrap_or_default());
+    let releases = releases::check(&tree::text("docs/RELEASES.md")?, &gate.refused())?;
     let assurance = tree::text("docs/ASSURANCE.md")?;
-    let rows = assurance::check(&assurance, &tried)?;
+    let rows = assurance::check(&assurance, &gate)?;
+    assumptions::check(&assurance, &gate, &compared)?;
     let known = names::tree()?;
+    known.is_proved(&gate)?;
     let names = names::check(&known)?;
     let functions = names::covers(&known, &tree::text("docs/ARCHITECTURE.md")?, &assurance)?;
     let promised = promises::check(&assurance, &known)?;

@@ -1,6 +1,7 @@
 //! The names that a document cites between backquotes, and its links, held to the tree: a renamed crate, function, file or edit shows.
 //! Landing notes are history and are not looked at.
 
+use crate::gate::Gate;
 use crate::releases::spans;
 use crate::{functions, headings, tree};
 
@@ -91,6 +92,29 @@ fn leads_somewhere(link: &str, text: &str, folder: &str) -> Result<(), String> {
 }
 
 impl Tree {
+    /// The functions of a crate, by their paths.
+    pub fn functions_of(&self, name: &str) -> Vec<String> {
+        let folder = format!("crates/{name}/src/");
+        let files = self.code.iter().filter(|(file, _)| file.starts_with(&folder));
+        files.flat_map(|(file, code)| functions::paths_in(file, code)).collect()
+    }
+
+    /// Nothing was left out of the gate: each crate is proved, each of its functions, and each edit was tried and refused.
+    pub fn is_proved(&self, gate: &Gate) -> Result<(), String> {
+        let mut crates = self.crates.clone();
+        crates.dedup();
+        for name in crates {
+            gate.of(&name)?;
+            self.functions_of(&name).iter().try_for_each(|path| gate.proves(path))?;
+        }
+        let refused = gate.refused();
+        let edits = self.files.iter().filter_map(|f| f.strip_prefix("crates/")?.strip_suffix(".edit")?.split_once("/must-fail/"));
+        match edits.map(|(name, label)| format!("{name}/{label}")).find(|edit| !refused.contains(edit)) {
+            Some(lost) => Err(format!("the gate refused no edit {lost}, which stands in the tree")),
+            None => Ok(()),
+        }
+    }
+
     /// Whether a span is a name of this tree, or none where it is no name that can be looked up.
     fn has(&self, span: &str) -> Option<bool> {
         let plain = |s: &str| !s.is_empty() && s.chars().all(|c| c.is_alphanumeric() || "_-./:".contains(c));
@@ -125,7 +149,7 @@ impl Tree {
     }
 }
 
-/// The tree as it is: the files that git would take, and those of a folder that is no repository.
+/// The tree as it is, without what rt and cargo made.
 pub fn tree() -> Result<Tree, String> {
     let mut files = Vec::new();
     files_below(".", &mut files)?;
@@ -146,7 +170,8 @@ fn files_below(folder: &str, files: &mut Vec<String>) -> Result<(), String> {
         let path = entry.map_err(|e| e.to_string())?.path();
         let name = path.to_string_lossy().trim_start_matches("./").to_string();
         if path.is_dir() {
-            if !name.ends_with("target") && name != ".git" {
+            let is_made = name.ends_with("target") || name.starts_with("crates/") && name.ends_with("/out");
+            if !is_made && name != ".git" {
                 files_below(&path.to_string_lossy(), files)?;
             }
         } else {
@@ -159,6 +184,7 @@ fn files_below(folder: &str, files: &mut Vec<String>) -> Result<(), String> {
 #[cfg(test)]
 mod tests {
     use super::*;
+    use crate::gate;
 
     fn known() -> Tree {
         let files = ["crates/one/src/lib.rt", "crates/one/specs/A.antt", "crates/one/must-fail/wrong.edit", "docs/X.md"];
@@ -189,6 +215,17 @@ mod tests {
         for span in ["libc::read", "&[u8]", "N passed, 0 failed", "x..y", "write", "tests/run", ".ci/run"] {
             assert_eq!(known().has(span), None, "{span}");
         }
+    }
+
+    #[test]
+    fn nothing_is_left_out_of_the_gate() {
+        let log = "== one\nfn one::write: proved\nlogic=proved functions=1\nrt: one proved\n\
+            rt: must-fail one/wrong.edit: refused, as it must be\nrt: ok; handles allowed: none; must-fail edits: 1 refused; all\n2 passed, 0 failed\n";
+        let proved = |log: &str| known().is_proved(&gate::read(log).unwrap());
+        assert_eq!(proved(log), Ok(()));
+        assert!(proved(&log.replace("one", "two")).unwrap_err().contains("the crate one"));
+        assert!(proved(&log.replace("one::write", "one::read")).unwrap_err().contains("the function one::write"));
+        assert!(proved(&log.replace("one/wrong", "one/other")).unwrap_err().contains("no edit one/wrong"));
     }
 
     #[test]

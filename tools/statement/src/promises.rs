@@ -68,17 +68,27 @@ fn keeps(path: &str, promises: &[&str], known: &Tree) -> Result<(), String> {
     if contract.ensures.is_empty() {
         return Err(format!("{path} has no `ensures`"));
     }
-    match promises.iter().find(|p| !contract.ensures.iter().any(|e| cites(e, p))) {
+    let modules = modules_in(code);
+    match promises.iter().find(|p| !contract.ensures.iter().any(|e| cites(e, p, &modules))) {
         Some(lost) => Err(format!("the `ensures` of {path} does not cite {lost}")),
         None => Ok(()),
     }
 }
 
-/// Whether a contract's text has a name, bare or behind a module's, `promise.Name`. A field, ` .name`, is no citation. Names end at a
+/// The names by which a file's code calls modules of definitions: `ghost use Rattle.one.specs.Promises as promise;`.
+fn modules_in(code: &str) -> Vec<&str> {
+    let uses = code.lines().filter_map(|l| l.strip_prefix("ghost use ")?.trim_end().strip_suffix(';'));
+    uses.filter(|u| !u.contains('{')).filter_map(|u| Some(u.split_once(" as ")?.1.trim())).collect()
+}
+
+/// Whether a contract's text has a name, bare or behind a module's, `promise.Name`. A field, `r.name`, is no citation. Names end at a
 /// space and at the marks that the contract language keeps out of them.
-fn cites(text: &str, name: &str) -> bool {
+fn cites(text: &str, name: &str, modules: &[&str]) -> bool {
     let words = text.split(|c: char| c.is_whitespace() || "(){};,@\"«»".contains(c));
-    words.filter(|w| !w.starts_with('.')).any(|w| w.rsplit('.').next() == Some(name))
+    words.into_iter().any(|w| match w.rsplit_once('.') {
+        Some((of, last)) => last == name && (modules.contains(&of) || of.starts_with("Rattle.")),
+        None => w == name,
+    })
 }
 
 /// Every public function of a crate that users call has a row.
@@ -103,17 +113,20 @@ mod tests {
     use crate::names;
 
     const HOST: &str = "\
+ghost use Rattle.host.specs.Promises as promise;
+ghost use Rattle.host.specs.Promises.{Extends as Other};
+
 // Opens. Begins is not promised here.
 pub fn open(r: u64) -> Opened
-    ensures { λ r. ⌜ promise.Opened r ⌝ } // Begins
+    ensures { promise.Opened result r } // Begins
 {
     fresh(r)
 }
 
 pub fn poll(x: u64) -> Polled
-    ensures first { λ r. ⌜ promise.Polled r x ⌝ }
-    ensures second { λ r. ⌜ promise.Extends (r .Opened)
-        x ⌝ }
+    ensures first { promise.Polled result x }
+    ensures second { promise.Extends (result.Opened)
+        x }
 {
     x
 }
@@ -122,9 +135,9 @@ pub(crate) fn inner() {}
 ";
 
     const EXPORTED: &str = "\
-#[no_mangle]
+#[unsafe(no_mangle)]
 pub extern \"C\" fn fizrahum_sum(bytes: &[u8]) -> u16
-    ensures { λ r. ⌜ r ≡ sumOf (now (bytes .entry)) ⌝ }
+    ensures { result ≡ sum_of bytes.now }
 {
     0
 }
@@ -133,12 +146,12 @@ pub extern \"C\" fn fizrahum_sum(bytes: &[u8]) -> u16
     const ROWS: &str = "\
 | `host::open` | `Opened`: the answer | `host/wrong` |
 | `host::poll` | `Polled`, `Extends`: the answer | `host/wrong` |
-| `c_api::fizrahum_sum` | `sumOf`: the answer | one that answers 0 |
+| `c_api::fizrahum_sum` | `sum_of`: the answer | one that answers 0 |
 ";
 
     fn checked(rows: &str, host: &str) -> Result<usize, String> {
         let definitions = "pub record Opened (r : ℕ) : Type 0 where\npub record Begins (r : ℕ) : Type 0 where\n\
-            abbrev pub Polled : ℕ → Type 0\npub record Extends (r : ℕ) : Type 0 where\nunfoldable pub sumOf : List ℕ → ℕ\n";
+            abbrev pub Polled : ℕ → Type 0\npub record Extends (r : ℕ) : Type 0 where\nunfoldable pub sum_of : List ℕ → ℕ\n";
         let known = Tree {
             crates: Vec::new(),
             files: Vec::new(),
@@ -168,15 +181,16 @@ pub extern \"C\" fn fizrahum_sum(bytes: &[u8]) -> u16
 
     #[test]
     fn a_function_without_an_ensures() {
-        refused(ROWS, &HOST.replace("\n    ensures { λ r. ⌜ promise.Opened r ⌝ } // Begins\n{", " {"), "host::open has no `ensures`");
+        refused(ROWS, &HOST.replace("\n    ensures { promise.Opened result r } // Begins\n{", " {"), "host::open has no `ensures`");
     }
 
     #[test]
     fn a_promise_that_is_not_cited() {
         refused(&ROWS.replace("`Opened`", "`Opened`, `Begins`"), HOST, "the `ensures` of host::open does not cite Begins");
-        refused(ROWS, &HOST.replace("promise.Opened r", "promise.OpenedAs r"), "does not cite Opened");
+        refused(ROWS, &HOST.replace("promise.Opened result", "promise.OpenedAs result"), "does not cite Opened");
         refused(&ROWS.replace("`Polled`", "`Opened`"), HOST, "the `ensures` of host::poll does not cite Opened");
         refused(ROWS, &HOST.replace("promise.Extends", "{- promise.Extends -}"), "does not cite Extends");
+        refused(ROWS, &HOST.replace("promise.Opened result", "result.Opened"), "does not cite Opened");
     }
 
     #[test]
@@ -187,7 +201,7 @@ pub extern \"C\" fn fizrahum_sum(bytes: &[u8]) -> u16
 
     #[test]
     fn a_function_with_a_requires() {
-        refused(ROWS, &HOST.replace("Opened\n", "Opened\n    requires { ⌜ r ≤ 255 ⌝ }\n"), "host::open has a `requires`");
+        refused(ROWS, &HOST.replace("Opened\n", "Opened\n    requires { r ≤ 255 }\n"), "host::open has a `requires`");
     }
 
     #[test]
@@ -207,7 +221,7 @@ pub extern \"C\" fn fizrahum_sum(bytes: &[u8]) -> u16
 
     #[test]
     fn a_name_that_no_definition_has() {
-        refused(&ROWS.replace("`Opened`", "`Opening`"), &HOST.replace("Opened r", "Opening r"), "specs/ declares Opening");
+        refused(&ROWS.replace("`Opened`", "`Opening`"), &HOST.replace("Opened result", "Opening result"), "specs/ declares Opening");
     }
 
     #[test]

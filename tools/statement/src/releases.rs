@@ -81,7 +81,7 @@ mod tests {
     }
 
     const LIST: &str = "# List\n\n- not: of an entry\n\n## 1. A fault\n\n- Known: in winter\n- State: mended in base-5\n\
-        - Shut out by: `host_claims/proofs/Laws.antt`: `nobody-forgotten`\n- Edits: `a/b`, `c/d`\n\n## 2. Another\n\n- Known: now\n- State: open\n";
+        - Shut out by: `host_claims/proofs/Laws.antt`: `nobody_forgotten`\n- Edits: `a/b`, `c/d`\n\n## 2. Another\n\n- Known: now\n- State: open\n";
 
     fn tried() -> Vec<String> {
         vec!["a/b".into(), "c/d".into()]
@@ -107,8 +107,8 @@ mod tests {
 
     #[test]
     fn a_theorem_that_is_not_there() {
-        let list = LIST.replace("nobody-forgotten", "nobody-forgot");
-        assert!(at_the_top(|| check(&list, &tried())).unwrap_err().contains("no theorem nobody-forgot"));
+        let list = LIST.replace("nobody_forgotten", "nobody_forgot");
+        assert!(at_the_top(|| check(&list, &tried())).unwrap_err().contains("no theorem nobody_forgot"));
     }
 
     #[test]

@@ -7,6 +7,13 @@ pub fn text(path: &str) -> Result<String, String> {
     std::fs::read_to_string(path).map_err(|e| format!("{path} cannot be read: {e}"))
 }
 
+/// The Rattle files that stand in the folder of one, itself among them.
+pub fn beside(path: &str) -> Vec<String> {
+    let folder = path.rsplit_once('/').map_or(".", |(folder, _)| folder);
+    let entries = std::fs::read_dir(folder).into_iter().flatten().filter_map(|e| Some(e.ok()?.path().to_str()?.to_string()));
+    entries.filter(|file| file.ends_with(".rt")).collect()
+}
+
 pub fn exists(path: &str) -> bool {
     Path::new(path).exists()
 }

@@ -1,0 +1,90 @@
+-- `host_receiving::accept` meets its contract: by what the line decided.
+use Prim.Native.Nat.{◌+◌, ◌≤◌}
+use mathlib.Core.Path.{◌≡◌, refl, sym, ap, ◌∙◌}
+use native.Mathlib.Omega.{arith}
+use lib.ListN.{length}
+use Rattle.line.specs.Receiving.{held_max}
+use Rattle.line.specs.declared.Answer.TheVariants.{One}
+use Rattle.endpoint.specs.Endpoint.{store_length}
+use Rattle.live_changes.specs.Changing.{Names}
+use Rattle.refinement.proofs.Sound.{few_of, held_of}
+use Rattle.decisions_verdict.specs.declared.Verdict.{Verdict}
+use Rattle.host_answers.specs.Code.{Ready}
+use Rattle.host_answers.proofs.Held.{length_front}
+use Rattle.host_receiving.proofs.Deciding.{short_payload, on_more, on_plain, on_message_law}
+use borrow.Enum.Refused.{opened}
+use Rattle.host_receiving.proofs.accept.Goals as goal
+
+pub decide_in-decision-requires : goal.decide_in-decision-requires
+decide_in-decision-requires c = (c.requires.0.1, held_of c.args.e c.requires.0.0.sound)
+
+pub act-requires : goal.act-requires
+act-requires c = (
+  (c.requires.0.0, omega arith),
+  c.decide_in-decision.ensures.decides.within,
+  rw c.only.ensures.1 tt,
+)
+
+pub act-requires-in_default-item : goal.act-requires-in_default-item
+act-requires-in_default-item c = (
+  (c.requires.0.0, omega arith),
+  c.decide_in-decision.ensures.decides.within,
+  rw c.only-in_default-item.ensures.1 tt,
+)
+
+pub slice_bounds-deliver-end-2 : goal.slice_bounds-deliver-end-2
+slice_bounds-deliver-end-2 c =
+    let long : length c.decide_in-decision.new.store ≡ store_length = omega arith in
+    sym (length_front c.decide_in-decision.new.store long)
+
+pub deliver-verdict-requires : goal.deliver-verdict-requires
+deliver-verdict-requires c =
+    let d = c.decide_in-decision in
+    let a = c.args in (
+      few_of a.e c.requires.0.0.sound,
+      omega arith,
+      short_payload d.result a.e.held a.bytes.now a.store.now d.new.store d.ensures,
+    )
+
+pub act-requires-2 : goal.act-requires-2
+act-requires-2 c = (
+  (c.requires.0.0, omega arith),
+  c.decide_in-decision.ensures.decides.within,
+  c.deliver-verdict.ensures.0.names,
+)
+
+pub shape_of-store : goal.shape_of-store
+shape_of-store c =
+    let long : length c.decide_in-decision.new.store ≡ store_length = omega arith in
+    omega (arith, long, c.requires.0.1)
+
+pub returns-in_default : goal.returns-in_default
+returns-in_default c =
+    let v = c.only in
+    let d = c.decide_in-decision in
+    let a = c.args in
+    on_more a.e d.result v.result a.clock 0 c.act.result a.bytes.now a.store.now d.new.store
+    c.act.new.store a.reply.now a.buffer.now d.ensures c.act.ensures refl c.in_default.is
+    (record { word = v.ensures.0; change = v.ensures.1; seen = v.ensures.2 })
+
+pub returns-in_default-item : goal.returns-in_default-item
+returns-in_default-item c =
+    let v = c.only-in_default-item in
+    let put = c.put_reply-replied in
+    let d = c.decide_in-decision in
+    let a = c.args in
+    on_plain a.e d.result v.result a.clock put.result c.act-in_default-item.result a.bytes.now a.store.now
+    d.new.store c.act-in_default-item.new.store a.reply.now a.buffer.now d.ensures c.act-in_default-item.ensures c.in-One.item
+    put.new.reply c.in-One.is (opened c.in_default-item.in_default-item-own.keys2)
+    (record { word = v.ensures.0; change = v.ensures.1; seen = v.ensures.2 }) put.ensures
+
+pub returns : goal.returns
+returns c =
+    let v = c.deliver-verdict in
+    let put = c.put_reply-replied in
+    let d = c.decide_in-decision in
+    let a = c.args in
+    on_message_law a.e d.result v.result a.clock put.result c.act-2.result a.bytes.now a.store.now
+    d.new.store c.act-2.new.store a.reply.now a.buffer.now d.ensures c.act-2.ensures c.in-Message.kind
+    c.in-Message.len c.in-Message.seq put.new.reply v.new.buffer (c.in-One.is ∙ ap One c.in-Message.is)
+    (rw c.in-Message.is at put.ensures) v.ensures.0 v.ensures.1

@@ -1,0 +1,56 @@
+-- `host_receiving::receive_in` meets its contract: by the table.
+use Prim.Native.Nat.{ℕ, ◌≤◌}
+use mathlib.Core.Bool.{◌||◌}
+use mathlib.Core.List.{[], ◌∷◌}
+use mathlib.Core.Option.{none}
+use mathlib.Core.Path.{◌≡◌, refl}
+use lib.Dec.{ltb}
+use lib.ListN.{length}
+use borrow.Author.Tests.{ltb-false}
+use Rattle.message.specs.Bytes.{total}
+use Rattle.command.specs.Payload.{max_data}
+use Rattle.ledger.specs.Calls.{receive}
+use Rattle.ledger.specs.Refusals.{line, first_of}
+use Rattle.endpoint.specs.declared.Endpoint.{Endpoint}
+use Rattle.endpoint.proofs.Order.{neither}
+use Rattle.refinement.specs.Refusals.{refusal_of}
+use Rattle.refusals.specs.Code.{with_endpoint}
+use Rattle.refusals.proofs.Table.{passed, own_passed}
+use Rattle.host_answers.proofs.Calls.{sound_of}
+use Rattle.host_answers.proofs.Calls.{meets, refuses, refused_by, accepted_by}
+use Rattle.host_receiving.proofs.receive_in.Goals as goal
+
+-- the buffers of a receive that the table lets through have room
+roomy : (e : Endpoint) (clock x y : ℕ) → first_of (with_endpoint e clock (line 6 (ltb x (total 0) || ltb y max_data) ∷ [])) ≡ none
+    → (total 0 ≤ x) × (max_data ≤ y)
+roomy e clock x y h =
+    let own = line 6 (ltb x (total 0) || ltb y max_data) ∷ [] in
+    let rest = own_passed 6 (ltb x (total 0) || ltb y max_data) [] (passed e clock own h).rest in
+    let both = neither (ltb x (total 0)) (ltb y max_data) rest.0 in
+    (ltb-false x (total 0) both.0, ltb-false y max_data both.1)
+
+-- the table lets the call through
+pub accept-requires : goal.accept-requires
+accept-requires c =
+    let passes : let a = c.args in
+    refusal_of a.e a.store.now (receive a.bytes.now a.reply.now a.buffer.now a.clock) ≡ none = let check = c.check_receive-check in accepted_by check.result check.ensures c.in-Accepted.is in
+    let table = passes in
+    let room = roomy c.args.e c.args.clock (length c.args.reply.now) (length c.args.buffer.now) table in
+    ((sound_of c.args.e c.args.clock _ table, c.requires), room.0, room.1)
+
+pub returns-in-Refused : goal.returns-in-Refused
+returns-in-Refused c =
+    let a = c.args in
+    let check = c.check_receive-check in
+    refuses a.e a.store.now (receive a.bytes.now a.reply.now a.buffer.now a.clock) _ c.in-Refused.number
+    (refused_by check.result check.ensures c.in-Refused.is)
+    (record { answers = refl; leaves = refl; keeps = refl; stores = refl })
+
+pub returns-in-Accepted : goal.returns-in-Accepted
+returns-in-Accepted c =
+    let passes : let a = c.args in
+    refusal_of a.e a.store.now (receive a.bytes.now a.reply.now a.buffer.now a.clock) ≡ none = let check = c.check_receive-check in accepted_by check.result check.ensures c.in-Accepted.is in
+    let a = c.args in
+    let table = passes in
+    meets a.e a.store.now (receive a.bytes.now a.reply.now a.buffer.now a.clock) _
+    (sound_of a.e a.clock _ table).sound table c.accept.ensures
