@@ -1,0 +1,26 @@
+-- `host::opening::fresh` meets its contract: the numbers are a fresh endpoint's.
+use Prim.Native.Nat.{◌+◌}
+use mathlib.Core.Path.{refl}
+use native.Mathlib.Numerals.{add-one}
+use borrow.Author.Rules.{rules}
+use Rattle.endpoint.specs.declared.Endpoint.{Endpoint}
+use Rattle.host.proofs.Fresh.{fresh_ledger, fresh_sound}
+use Rattle.host.proofs.opening.fresh.Goals as goal
+
+pub returns : goal.returns
+returns c =
+    let r = c.args.reserved in
+    let e : Endpoint = record {
+      live = c.no_requests-live.result;
+      reserved = r;
+      clock = 0;
+      seq = c.first-seq.result;
+      next = record { 0 = r + 1 };
+      seen = c.none-seen.result;
+      held = 0;
+    } in (
+      fresh_ledger e r c.no_requests-live.ensures refl refl c.first-seq.ensures (add-one r) c.none-seen.ensures
+          refl,
+      fresh_sound e r c.no_requests-live.ensures refl refl c.first-seq.ensures (add-one r) c.none-seen.ensures
+          refl (search rules),
+    )
