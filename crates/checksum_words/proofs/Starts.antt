@@ -1,5 +1,5 @@
 -- The register at the start, as a number: in front of the bytes, or added to the first two of them. Assumes nothing.
-use Prim.Native.Nat.{ℕ, ◌+◌, ◌*◌, ◌^◌, ◌<◌, ◌-◌}
+use Prim.Native.Nat.{ℕ, ◌+◌, ◌*◌, ◌^◌, ◌<◌}
 use mathlib.Core.List.{List}
 use mathlib.Core.Path.{◌≡◌, refl, sym, ap, ap₂, ◌∙◌, subst}
 use native.Mathlib.Nat.{mul_assoc, mul_comm, add_comm, add-zero}
@@ -16,9 +16,9 @@ pub start_left : remainder 16 start_before ≡ start
 unfolding remainder with_bit
 start_left = refl
 
-start_before : (s : List ℕ) → checksum_of s ≡ remainder (8 * length s + 16) (number_from start_before s)
+start_before_law : (s : List ℕ) → checksum_of s ≡ remainder (8 * length s + 16) (number_from start_before s)
 unfolding checksum_of
-start_before s = ap (λ (c : ℕ). checksum_from c s) (sym start_left) ∙ bytes_next 16 start_before s
+start_before_law s = ap (λ (c : ℕ). checksum_from c s) (sym start_left) ∙ bytes_next 16 start_before s
 
 -- two bytes behind that number are what the start leaves as two bytes
 two_bytes : remainder 32 (start_before * 2 ^ 16) ≡ remainder 16 start
@@ -42,7 +42,7 @@ at_top k =
 
 pub start_first : (k : ℕ) (s : List ℕ) → 8 * length s ≡ k + 16 → checksum_of s ≡ remainder (k + 16) (bit_xor (number s) (start * 2 ^ k))
 start_first k s e =
-    start_before s
+    start_before_law s
     ∙ ap (remainder (8 * length s + 16)) (number_behind start_before s)
     ∙ ap (λ (w : ℕ). remainder (w + 16) (start_before * 2 ^ w + number s)) e
     ∙ ap (λ (w : ℕ). remainder w (start_before * 2 ^ (k + 16) + number s)) (add_comm (k + 16) 16)

@@ -2,14 +2,10 @@
 -- `to_third`. Assumes nothing.
 use borrow.Author.Rules.{rules}
 use Rattle.checksum_words.proofs.Steps.{four_step}
-use Rattle.checksum_words.proofs.long.with_next.Statement.{statement}
-use Rattle.checksum_words.proofs.long.with_next.Tie as tie
+use Rattle.checksum_words.proofs.long.with_next.Goals as goal
 
-returns : tie.Need-returns
+pub returns : goal.returns
 returns c =
-    let q = c.before.before.before.before.before.before.args in
+    let q = c.args in
     four_step q.four.a q.four.b q.four.c q.four.d q.word
     (search rules) (search rules) (search rules) (search rules) (search rules)
-
-pub with-next-spec : {M : Type 1} → statement M
-with-next-spec = tie.close (tie.spec returns)
