@@ -20,8 +20,11 @@ OPENS = re.compile(r"^(?:(?:pub|abbrev|unfoldable)\s+)*(?:record|data)\b")
 # A lemma and a definition that would fall together: the lemma has `_law` behind its name.
 LAWS = (
     "fault-runs first-free first-sent from-le16 heard-as in-pieces in-time is-command is-quiet item-runs kept-runs last-id may-go-again no-response "
-    "not-command on-ack on-command on-data on-message on-nak on-response on-sequenced past-of poll-line receive-line refusal-runs request-runs second-id"
+    "not-command on-ack on-command on-data on-message on-nak on-response on-sequenced past-of poll-line receive-line refusal-runs request-runs second-id start-before"
 ).split()
+
+# Pages whose names between backticks are the repository's: not the words of a format, and no landing's note.
+PAGES = "ARCHITECTURE ASSURANCE DECISIONS RELEASES".split()
 
 # Variables of specs/ that several definitions share.
 VARIABLES = "backSeq bufferExit framesExit otherKept outputExit replyExit storeExit".split()
@@ -111,7 +114,9 @@ def of_the_library(crates):
 
 
 def turn(text, names):
-    return TOKEN.sub(lambda m: names.get(m.group(0), m.group(0)), text)
+    """Names alone: a string stays as it is."""
+    one = lambda m: m.group(0) if m.group(0).startswith('"') else names.get(m.group(0), m.group(0))
+    return re.sub(r'"(?:[^"\\]|\\.)*"|' + TOKEN.pattern, one, text)
 
 
 def camel(names):
@@ -156,7 +161,7 @@ def main(argv):
     for path in files(crates, ".edit"):
         code = lambda line: turn(line, names if "antt" in read(path) else camel(names))
         write(path, "\n".join(code(l) if l.startswith(("old:", "new:")) else turn_ticked(l, names) for l in read(path).split("\n")))
-    pages = [os.path.join(top, "README.md"), *files(os.path.join(top, "docs"), ".md")]
+    pages = [os.path.join(top, "README.md"), *(os.path.join(top, "docs", f"{page}.md") for page in PAGES)]
     for path in pages:
         write(path, turn_ticked(read(path), names))
 

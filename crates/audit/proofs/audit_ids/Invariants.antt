@@ -1,5 +1,5 @@
 -- `audit::audit_ids` meets its contract: the walk of `Walks.antt`, with the rest of the row at hand.
-use Prim.Native.Nat.{◌+◌, ◌-◌}
+use Prim.Native.Nat.{◌+◌}
 use mathlib.Core.Path.{◌≡◌}
 use lib.ListN.{length}
 use Rattle.audit.proofs.Walks.{Walked}

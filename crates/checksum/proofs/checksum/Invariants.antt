@@ -1,6 +1,5 @@
 -- `checksum::checksum` meets its contract. The loop's invariant: the register, continued over the bytes that are left, gives
 -- the checksum of all. The measure is their number. Assumes nothing.
-use Prim.Native.Nat.{◌-◌}
 use mathlib.Core.Path.{◌≡◌}
 use lib.ListN.{length}
 use Rattle.checksum.specs.Checksum.{checksum_of, checksum_from}
