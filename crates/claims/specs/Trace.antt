@@ -119,8 +119,8 @@ frames place (e ∷ es) = if (is_at place (sent_for e es)) (framed (frame_in e))
 
 -- the requests without one that ended
 unfoldable pub without : Option Asked → List Asked → List Asked
-without gone [] = []
-without gone (a ∷ rest) = if (is_at a.place gone) (without gone rest) (a ∷ without gone rest)
+without left [] = []
+without left (a ∷ rest) = if (is_at a.place left) (without left rest) (a ∷ without left rest)
 
 -- a request that joins, if there is one
 abbrev pub joining : Option Asked → List Asked
