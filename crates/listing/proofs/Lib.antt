@@ -1,3 +1,4 @@
 pub mod Turn
 pub mod Onward
 pub mod Laws
+pub mod Whole

@@ -1,15 +1,19 @@
 -- Piece after piece: what they come to one after the other is what the bytes joined come to.
 use Prim.Native.Nat.{ℕ}
 use mathlib.Core.List.{List, [], ◌∷◌, ◌++◌, append_assoc}
-use mathlib.Core.Path.{◌≡◌, refl, sym, ap, ◌∙◌}
+use mathlib.Core.Path.{◌≡◌, refl, sym, ap, subst, ◌∙◌}
 use native.Mathlib.Omega.{arith}
 use lib.ListN.{length, length-append}
+use Rattle.std.specs.Prelude.{Option, ⊤}
+use Rattle.std.specs.Io.KnownBytes.{Appends, Consumes}
+use Rattle.std.proofs.KnownBytes.{Appends-nil, Appends-trans, Appends-kept, Consumes-nil, Consumes-trans, Consumes-kept}
 use Rattle.message.specs.Items.{Item}
 use Rattle.line.specs.Cuts.{Found, found, handed_each, joined}
 use Rattle.line.proofs.Handed.{handed_joined}
 use Rattle.line.proofs.Laws.{cuts}
 use Rattle.listing_lines.specs.Waiting.{writes, waits, writes_after, waits_after}
-use Rattle.listing.specs.Promises.{ListsPiece, ListsSome, ListsAll}
+use Rattle.listing.specs.Moving.{Moves, Rests, MovesSome, MovesAll}
+use Rattle.listing.specs.Promises.{on_next, ListsPiece, ListsSome, ListsAll}
 use Rattle.listing.specs.Standing.{items_of, Standing, fresh, listed, writes_in}
 use Rattle.listing.specs.declared.Next.{Next}
 use Rattle.listing.specs.declared.Next.TheVariants.{Read, End, ReadFailed, WriteFailed}
@@ -78,3 +82,62 @@ onward WriteFailed {room} same all some =
         );
       };
     }
+
+-- of a reader and a writer: before anything is read, and from what was read before to what is read next
+pub moves_none : (room : ℕ) (left written : Option (List ℕ)) → MovesAll Read room fresh left left written written
+unfolding writes_in items_of writes_after handed_each joined
+moves_none room left written = record {
+  input = [];
+  moves = record {
+    lists = sym (listed_none room);
+    reads = Consumes-nil left;
+    writes = rw (← cuts []) (Appends-nil written);
+  };
+  ends = λ h. absurd (subst (λ (n : Next). on_next n ⊤ ⊥ ⊥) h tt);
+}
+
+-- a piece that was handed in is one that was read, and what it brings is what was written
+pub one_move : (next : Next) (room : ℕ) (start : Standing) (piece : List ℕ) (end : Standing) {left left' written written' : Option (List ℕ)}
+    → ListsPiece next room start piece end → Consumes left left' piece
+    → (next ≡ Read → Appends written written' (writes_in room start piece)) → MovesSome next room start end left left' written written'
+one_move Read room start piece end lists reads writes = record {
+  piece = piece;
+  moves = record { lists = lists; reads = reads; writes = writes refl };
+  ends = λ h. absurd (subst (λ (n : Next). on_next n ⊤ ⊥ ⊥) h tt);
+}
+one_move End room start piece end lists reads writes = absurd lists
+one_move ReadFailed room start piece end lists reads writes = absurd lists
+one_move WriteFailed room start piece end lists reads writes = record {
+  piece = piece;
+  moves = tt;
+  ends = λ h. absurd (subst (λ (n : Next). on_next n ⊥ ⊥ ⊤) h tt);
+}
+
+module _ {room size : ℕ} {start end : Standing} {left left' left'' written written' written'' : Option (List ℕ)} where
+  rested : (same : size ≡ room) (input : List ℕ) → Moves room fresh input start left left' written written'
+      → Rests start end left' left'' written' written'' → Moves room fresh input end left left'' written written''
+  rested same input all some = record {
+    lists = some.lists ∙ all.lists;
+    reads = Consumes-kept _ _ _ _ all.reads some.reads;
+    writes = Appends-kept _ _ _ _ all.writes some.writes;
+  }
+
+  moved : (same : size ≡ room) (input piece : List ℕ) → Moves room fresh input start left left' written written'
+      → Moves size start piece end left' left'' written' written'' → Moves room fresh (input ++ piece) end left left'' written written''
+  moved same input piece all some = record {
+    lists = rw same at some.lists ∙ rw (listed_on room fresh input piece, ← all.lists);
+    reads = Consumes-trans _ _ _ _ _ all.reads some.reads;
+    writes = rw (written_on room fresh input piece, ← all.lists) (Appends-trans _ _ _ _ _ all.writes (rw same at some.writes));
+  }
+
+pub moves_on : (next : Next) {room size : ℕ} {start end : Standing} {left left' left'' written written' written'' : Option (List ℕ)}
+    → size ≡ room → MovesAll Read room start left left' written written'
+    → MovesSome next size start end left' left'' written' written'' → MovesAll next room end left left'' written written''
+moves_on Read same all some = record {
+  input = all.input ++ some.piece;
+  moves = moved same all.input some.piece all.moves some.moves;
+  ends = some.ends;
+}
+moves_on End same all some = record { input = all.input; moves = rested same all.input all.moves some.moves; ends = some.ends }
+moves_on ReadFailed same all some = record { input = all.input; moves = rested same all.input all.moves some.moves; ends = some.ends }
+moves_on WriteFailed same all some = record { input = []; moves = tt; ends = some.ends }

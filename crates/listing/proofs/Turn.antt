@@ -2,12 +2,15 @@
 -- comes to what all comes to.
 use Prim.Native.Nat.{ℕ, ◌+◌, ◌-◌, ◌≤◌, ◌<◌}
 use mathlib.Core.Bool.{true, false}
-use mathlib.Core.List.{List, [], ◌∷◌, ◌++◌}
-use mathlib.Core.Path.{◌≡◌, sym, ap, ◌∙◌}
+use mathlib.Core.List.{List, [], ◌∷◌, ◌++◌, append_assoc, append-nil}
+use mathlib.Core.Path.{◌≡◌, refl, sym, ap, subst, ◌∙◌}
 use native.Mathlib.Omega.{arith}
 use lib.ListN.{length, take, drop, length-take, length-drop, length-append}
 use lib.Seq.{take_all}
 use borrow.Author.Tests.{leb-false}
+use Rattle.std.specs.Prelude.{Option}
+use Rattle.std.specs.Io.KnownBytes.{Appends}
+use Rattle.std.proofs.KnownBytes.{Appends-nil, Appends-trans}
 use Rattle.message.specs.Promises.{item_of}
 use Rattle.message.specs.declared.Item.{Item}
 use Rattle.message.specs.declared.Item.TheVariants.{DamagedHeader, Forbidden, DamagedPayload, Message}
@@ -39,6 +42,15 @@ behind k l = take_all (length l - k) (drop k l) (rw (length-drop k l) (omega ari
 pub record Left (room : ℕ) (start : Standing) (piece : List ℕ) (now : Standing) (rest : List ℕ) : Type 0 where
   pub same : listed room now rest ≡ listed room start piece
   pub fewer : length (writes_in room now rest) ≤ length (writes_in room start piece)
+
+-- of a writer whose bytes are known: what was written for the piece so far, and what is still to be written for it, are all that is
+pub record Sent (room : ℕ) (start : Standing) (piece : List ℕ) (now : Standing) (rest : List ℕ) (written written' : Option (List ℕ)) : Type 0 where
+  pub done : List ℕ
+  pub grows : Appends written written' done
+  pub so_far : done ++ writes_in room now rest ≡ writes_in room start piece
+
+pub sent_none : (room : ℕ) (start : Standing) (piece : List ℕ) (written : Option (List ℕ)) → Sent room start piece start piece written written
+sent_none room start piece written = record { done = []; grows = Appends-nil written; so_far = refl }
 
 module _ (r : Received) (held new exit : List ℕ) (p : Receives r held new exit) where
   module _ (i : Item) (told : r.answer ≡ One i) where
@@ -79,6 +91,21 @@ module _ (r : Received) (held new exit : List ℕ) (p : Receives r held new exit
                   (omega (arith, l.fewer, ap length writes_next ∙ length-append (writes room waiting) _));
             }
 
+        -- what it wanted has been written
+        pub sent_next : {written written' written'' : Option (List ℕ)}
+            → Sent room start piece record { waiting = waiting; held = held } new written written' → s.fine ≡ true
+            → (s.fine ≡ true → Appends written' written'' (writes size waiting))
+            → Sent room start piece record { waiting = take s.used buffer; held = take r.count exit }
+            (take (length new - r.taken) (drop r.taken new)) written written''
+        sent_next sent fine more =
+            let joined : take s.used buffer ≡ waits room waiting (item_of i) = rw (fine, same_size) at a.joins in
+            record {
+              done = sent.done ++ writes room waiting;
+              grows = Appends-trans _ _ _ _ _ sent.grows (rw same_size at (more fine));
+              so_far = rw (joined, behind r.taken new)
+                  (append_assoc sent.done (writes room waiting) _ ∙ ap (λ (l : List ℕ). sent.done ++ l) (sym writes_next) ∙ sent.so_far);
+            }
+
         -- the write that it wanted has failed
         pub left_fails : line_room ≤ room → s.fine ≡ false
             → Fails room start piece record { waiting = take s.used buffer; held = take r.count exit }
@@ -100,6 +127,15 @@ module _ (r : Received) (held new exit : List ℕ) (p : Receives r held new exit
       → record { waiting = waiting; held = take r.count exit } ≡ listed room record { waiting = waiting; held = held } new
   unfolding listed items_of waits_after
   listed_more told room waiting = rw (handed_more held new (sym p.answers ∙ ap answer_of told), p.holds)
+
+  -- and all that they wanted has been written
+  pub sent_more : r.answer ≡ More → (room : ℕ) (waiting : List ℕ) {start : Standing} {piece : List ℕ} {written written' : Option (List ℕ)}
+      → Sent room start piece record { waiting = waiting; held = held } new written written'
+      → Appends written written' (writes_in room start piece)
+  unfolding writes_in items_of writes_after
+  sent_more told room waiting {written = written} {written' = written'} sent =
+      subst (Appends written written')
+      (sym (append-nil sent.done) ∙ rw (handed_more held new (sym p.answers ∙ ap answer_of told)) at sent.so_far) sent.grows
 
 short_by : (held new : List ℕ) (i : Item) → (spec.receive held new).answer ≡ item (item_of i) → len_of (item_of i) < decimal_limit
 short_by held new DamagedHeader h = omega arith

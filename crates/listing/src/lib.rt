@@ -1,11 +1,14 @@
 // The capture lister (document 01, "Capture lister"): standard input to its end, a line an item, in constant memory.
 #![tactic(auto)]
 
-ghost use Rattle.std.specs.Prelude.{◌≤◌, ◌<◌, length};
+ghost use Rattle.std.specs.Prelude.{◌≡◌, ◌≤◌, ◌<◌, true, ◌++◌, length, take};
+ghost use Rattle.std.specs.Io.KnownBytes.{Appends};
 ghost use Rattle.line.specs.Receiving.{held_max};
 ghost use Rattle.listing_words.specs.Words.{decimal_limit};
-ghost use Rattle.listing_lines.specs.Text.{line_room};
+ghost use Rattle.listing_lines.specs.Text.{line_room, end_of};
+ghost use Rattle.listing.specs.Standing.{writes_in};
 ghost use Rattle.listing.specs.Promises.{standing, ListsPiece, ListsSome, ListsAll};
+ghost use Rattle.listing.specs.Moving.{MovesSome, MovesAll, Finishes, Lists};
 
 use line::{Answer, HELD_MAX};
 use line_receiving::receive;
@@ -27,8 +30,9 @@ struct Listing {
     next: Next,
 }
 
+// What comes next: more is to be read, all is listed, or what failed.
 #[derive(Clone, Copy)]
-enum Next {
+pub enum Next {
     Read,
     End,
     ReadFailed,
@@ -36,18 +40,28 @@ enum Next {
 }
 
 // Lists standard input on standard output. Where a read or a write fails, standard error says so and `end` is not printed. No
-// contract can say what a program reads or writes: that much is tested.
+// contract can say what a program reads or writes: that much is tested, and what `list` does with a reader and a writer is proved.
 pub fn list_standard_input(rt: &(impl Input + Print + Eprint)) {
+    match list(&mut rt.reader(), &mut io::writer(rt)) {
+        Next::End => {}
+        Next::Read => say(rt, "lister: standard input does not end\n"),
+        Next::ReadFailed => say(rt, "lister: reading standard input failed\n"),
+        Next::WriteFailed => say(rt, "lister: writing standard output failed\n"),
+    }
+}
+
+// Lists what a reader gives to a writer, and answers `End` where all went well. Where a read or a write fails, `end` is not written.
+// Ruled out: an item without its line, a line that is lost, and a piece that is not read.
+pub fn list<R: Read, W: Write>(input: &mut R, output: &mut W) -> Next
+    ensures { Lists result (R.remaining input.old) (R.remaining input.new) (W.contents output.old) (W.contents output.new) }
+{
     let mut held = [0; HELD_MAX];
     let mut out = [0; OUT_LENGTH];
-    let mut output = io::writer(rt);
     if output.write_all(b"items\n").is_err() {
-        say(rt, "lister: writing standard output failed\n");
-        return;
+        return Next::WriteFailed;
     }
-    let mut input = rt.reader();
-    let listing = list_all(&mut input, &mut output, &mut held, &mut out);
-    finish(rt, &mut output, &mut out, listing);
+    let listing = list_all(input, output, &mut held, &mut out);
+    finish(output, &mut out, listing)
 }
 
 // Reads until the input ends or something fails. A proved loop has to end, and nothing says that an input does: so it counts down
@@ -62,6 +76,8 @@ fn list_all<R: Read, W: Write>(
     ensures count_le_held_max { (result.count ≤ held_max) × (result.used ≤ length out.new) }
     ensures lists_all { ListsAll result.next (length out.old)
         (standing result.used result.count out.new held.new) }
+    ensures moves_all { MovesAll result.next (length out.old) (standing result.used result.count out.new held.new)
+        (R.remaining input.old) (R.remaining input.new) (W.contents output.old) (W.contents output.new) }
 {
     let mut count = 0;
     let mut used = 0;
@@ -96,6 +112,9 @@ fn list_some<R: Read, W: Write>(
     ensures count_le_held_max { (result.count ≤ held_max) × (result.used ≤ length out.new) }
     ensures lists_some { ListsSome result.next (length out.old) (standing used count out.old held.old)
         (standing result.used result.count out.new held.new) }
+    ensures moves_some { MovesSome result.next (length out.old) (standing used count out.old held.old)
+        (standing result.used result.count out.new held.new)
+        (R.remaining input.old) (R.remaining input.new) (W.contents output.old) (W.contents output.new) }
 {
     let mut piece = [0; PIECE_LENGTH];
     let Ok(n) = input.read(&mut piece) else {
@@ -129,6 +148,8 @@ fn list_piece<W: Write>(
     ensures count_le_held_max { (result.count ≤ held_max) × (result.used ≤ length out.new) }
     ensures lists_piece { ListsPiece result.next (length out.old) (standing used count out.old held.old)
         piece.now (standing result.used result.count out.new held.new) }
+    ensures written { result.next ≡ Next.Read → Appends (W.contents output.old) (W.contents output.new)
+        (writes_in (length out.old) (standing used count out.old held.old) piece.now) }
 {
     let mut rest = piece;
     let mut count = count;
@@ -158,30 +179,33 @@ fn list_piece<W: Write>(
     }
 }
 
-// The last lines, or what failed.
-fn finish<W: Write>(rt: &impl Eprint, output: &mut W, out: &mut [u8], listing: Listing)
+// The last lines, or as much as can be written. Answers what came of it.
+fn finish<W: Write>(output: &mut W, out: &mut [u8], listing: Listing) -> Next
     requires { (line_room ≤ length out.old) × (listing.count ≤ held_max) × (listing.used ≤ length out.old) }
+    ensures { Finishes result listing out.old (W.contents output.old) (W.contents output.new) }
 {
     let next = listing.next;
     match next {
         Next::End => {
-            if !end_sheet(output, out, listing.used, listing.count) {
-                say(rt, "lister: writing standard output failed\n");
+            if end_sheet(output, out, listing.used, listing.count) {
+                return Next::End;
             }
+            Next::WriteFailed
         }
-        Next::Read => say(rt, "lister: standard input does not end\n"),
         Next::ReadFailed => {
             let used = listing.used;
             let _ = output.write_all(&out[..used]);
-            say(rt, "lister: reading standard input failed\n");
+            Next::ReadFailed
         }
-        Next::WriteFailed => say(rt, "lister: writing standard output failed\n"),
+        _ => next,
     }
 }
 
 // All lines that wait are written, and the last one behind them. Answers whether every write was taken whole.
 fn end_sheet<W: Write>(output: &mut W, out: &mut [u8], used: usize, held: usize) -> bool
     requires { (used ≤ length out.old) × (line_room ≤ length out.old) × (held < decimal_limit) }
+    ensures { result ≡ true
+        → Appends (W.contents output.old) (W.contents output.new) (take used out.old ++ end_of held) }
 {
     if output.write_all(&out[..used]).is_err() {
         return false;

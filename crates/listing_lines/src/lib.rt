@@ -4,11 +4,13 @@
 
 pub mod text; // an item as a line of text
 
-ghost use Rattle.std.specs.Prelude.{◌≤◌, ◌<◌, length, take};
+ghost use Rattle.std.specs.Prelude.{◌≡◌, ◌≤◌, ◌<◌, true, length, take};
+ghost use Rattle.std.specs.Io.KnownBytes.{Appends};
 ghost use Rattle.message.specs.Promises.{item_of};
 ghost use Rattle.listing_words.specs.Words.{decimal_limit};
 ghost use Rattle.listing_lines.specs.Promises.{Adds};
 ghost use Rattle.listing_lines.specs.Text.{line_room, len_of};
+ghost use Rattle.listing_lines.specs.Waiting.{writes};
 
 use crate::text::{LINE_ROOM, put_line};
 use message::Item;
@@ -26,7 +28,9 @@ pub struct Sheet {
 // Ruled out: a line that is put over those that wait, and one that is left out.
 pub fn add_line<W: Write>(output: &mut W, out: &mut [u8], used: usize, item: Item) -> Sheet
     requires { (used ≤ length out.old) × (line_room ≤ length out.old) × (len_of (item_of item) < decimal_limit) }
-    ensures { Adds result (length out.old) (take used out.old) (item_of item) out.new }
+    ensures adds { Adds result (length out.old) (take used out.old) (item_of item) out.new }
+    ensures written { result.fine ≡ true
+        → Appends (W.contents output.old) (W.contents output.new) (writes (length out.old) (take used out.old)) }
 {
     if out.len() - used < LINE_ROOM {
         if output.write_all(&out[..used]).is_err() {

@@ -3,7 +3,7 @@ use mathlib.Core.List.{[]}
 use mathlib.Core.Path.{refl}
 use lib.ListN.{length}
 use Rattle.listing.specs.Promises.{standing}
-use Rattle.listing.proofs.Onward.{one_piece}
+use Rattle.listing.proofs.Onward.{one_piece, one_move}
 use Rattle.listing.proofs.list_some.Goals as goal
 
 pub returns-in_default-clause-lists_some : goal.returns-in_default-clause-lists_some
@@ -18,3 +18,10 @@ returns-clause-lists_some _ c =
     let start = standing a.used a.count a.out.now a.held.now in
     let p = c.list_piece in
     one_piece p.result.next (length a.out.now) start _ _ p.ensures.lists_piece
+
+pub returns-clause-moves_some : goal.returns-clause-moves_some
+returns-clause-moves_some _ c =
+    let a = c.args in
+    let start = standing a.used a.count a.out.now a.held.now in
+    let p = c.list_piece in
+    one_move p.result.next (length a.out.now) start _ _ p.ensures.lists_piece c.in-Ok.ensures.bytes.0 p.ensures.written
