@@ -65,7 +65,7 @@ pub fn list<R: Read, W: Write>(input: &mut R, output: &mut W) -> Next
 }
 
 // Reads until the input ends or something fails. A proved loop has to end, and nothing says that an input does: so it counts down
-// from a number that no run uses up. The contract speaks of some input, since none can say what is read.
+// from a number that no run uses up. The contract speaks of some input: of a reader whose bytes are known it is what was read.
 fn list_all<R: Read, W: Write>(
     input: &mut R,
     output: &mut W,
