@@ -1,4 +1,4 @@
-// Bytes copied to the front of a slice, and the first byte of a kind searched in a part of one.
+// Bytes copied to the front of a slice, a part of a slice, and the first byte of a kind searched in such a part.
 #![tactic(auto)]
 
 ghost use Rattle.std.specs.Prelude.{◌≡◌, ◌≢◌, ℕ, ◌++◌, ◌≤◌, ◌<◌, length, take, drop, slice_index};
@@ -14,6 +14,15 @@ pub fn copy(from: &[u8], to: &mut [u8]) -> usize
     let len = from.len();
     to[..len].copy_from_slice(from);
     len
+}
+
+// The len bytes from a place on, or those that there are.
+// Ruled out: no byte where there are fewer than len, and a part that begins a byte late.
+pub fn part(bytes: &[u8], at: usize, len: usize) -> &[u8]
+    ensures { result.now ≡ take len (drop at bytes.now) }
+{
+    let rest = &bytes[at.min(bytes.len())..];
+    &rest[..len.min(rest.len())]
 }
 
 // The place of the first byte of the kind asked for among those from `from` up to `to`, or `to` where there is none. Public for the

@@ -23,11 +23,11 @@ stands_other [] h = refl
 stands_other (x ∷ []) h = sym (ne_eqb x syn1 h)
 stands_other (x ∷ y ∷ xs) h = rw (ne_eqb x syn1 h)
 
-pub stands_lone : (xs : List ℕ) → length xs ≡ 1 → get_or xs 0 0 ≡ syn1 → true ≡ stands xs
+pub stands_lone : (xs : List ℕ) → 0 < length xs → length xs < 2 → eqb (get_or xs 0 0) syn1 ≡ stands xs
 unfolding stands
-stands_lone [] h e = absurd (omega arith)
-stands_lone (x ∷ []) h e = sym (eq-eqb x syn1 e)
-stands_lone (x ∷ y ∷ xs) h e = absurd (omega arith)
+stands_lone [] some few = absurd (omega arith)
+stands_lone (x ∷ []) some few = refl
+stands_lone (x ∷ y ∷ xs) some few = absurd (omega arith)
 
 pub stands_pair : (xs : List ℕ) → 1 < length xs → get_or xs 0 0 ≡ syn1 → eqb (get_or xs 1 0) syn2 ≡ stands xs
 unfolding stands

@@ -1,5 +1,5 @@
 -- The paper's number and values for each case of the enums that the code answers, and what the functions promise.
-use Rattle.std.specs.Prelude.{ℕ, List, ◌≡◌, length}
+use Rattle.std.specs.Prelude.{ℕ, List, ◌≡◌, length, Option, None, Some}
 use Rattle.message.specs.Bytes.{message}
 use Rattle.message.specs.Items as items
 use Rattle.message.specs.Items.{Scan, undecided, decided}
@@ -8,8 +8,8 @@ use Rattle.message.specs.declared.Written.{Written}
 use Rattle.message.specs.declared.Written.TheVariants.{Length, Forbidden, NoRoom}
 use Rattle.message.specs.declared.Item.{Item}
 use Rattle.message.specs.declared.Item.TheVariants as item
+use Rattle.message.specs.declared.FirstItem.{FirstItem}
 use Rattle.message.specs.declared.Reading.{Reading}
-use Rattle.message.specs.declared.Reading.TheVariants.{Undecided, Decided}
 
 -- the writer's answers
 abbrev pub answer_of : Written → Answer
@@ -30,6 +30,9 @@ item_of item.DamagedPayload = items.damaged_payload
 item_of (item.Message kind seq len) = items.message kind seq.0 len
 
 -- the reader's answers
+abbrev pub scan_with : (dropped : ℕ) → Option FirstItem → Scan
+scan_with n None = undecided n
+scan_with n (Some f) = decided (item_of f.item) n f.removed
+
 abbrev pub scan_of : Reading → Scan
-scan_of (Undecided n) = undecided n
-scan_of (Decided i n r) = decided (item_of i) n r
+scan_of r = scan_with r.dropped r.first

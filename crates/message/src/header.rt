@@ -1,5 +1,5 @@
 // The fixed parts of a message, and which headers are allowed (document 01, "Bytes on the line").
-ghost use Rattle.std.specs.Prelude.{◌≡◌, ◌||◌, ◌^◌, ◌<◌, eqb};
+ghost use Rattle.std.specs.Prelude.{◌≡◌, ◌^◌, ◌<◌};
 ghost use Rattle.message.specs.Bytes.{total, allowed, writable};
 ghost use Rattle.message.specs.Items.{stands};
 
@@ -11,6 +11,8 @@ pub const SYN: [u8; 2] = *b"\xAA\x55";
 pub const SYN_LENGTH: usize = 2;
 
 // The values of TYPE.
+// Stays: a number and no enum, since `message_writer::write`, `message_reader::payload`, `host_deliveries::put_reply` and
+// `decisions::judge` take any TYPE, and may ask no more.
 pub const NAK: u8 = 0x04;
 
 pub const ACK: u8 = 0x40;
@@ -45,17 +47,11 @@ pub const OVERHEAD: usize = 10;
 pub fn syn_stands(rest: &[u8]) -> bool
     ensures { result ≡ stands rest.now }
 {
-    let syn = SYN;
-    if rest.len() == 0 {
-        return false;
+    match rest {
+        [] => false,
+        [first] => *first == SYN[0],
+        [first, second, ..] => *first == SYN[0] && *second == SYN[1],
     }
-    if rest[0] != syn[0] {
-        return false;
-    }
-    if rest.len() == 1 {
-        return true;
-    }
-    rest[1] == syn[1]
 }
 
 // The bytes of a message with this LEN. Asks for a LEN of 16 bits, so that the sum fits; the callers have read one.
@@ -70,27 +66,16 @@ pub fn total_length(len: usize) -> usize
 pub fn is_allowed(kind: u8, len: usize) -> bool
     ensures { result ≡ allowed kind len }
 {
-    if is_one_of(kind, ACK, NAK) {
-        return len == 0;
+    match kind {
+        ACK | NAK => len == 0,
+        DATA_SEQ | DATA_NSQ => 1 <= len && len <= MAX_LEN,
+        _ => false,
     }
-    if is_one_of(kind, DATA_SEQ, DATA_NSQ) {
-        return 1 <= len && len <= MAX_LEN;
-    }
-    false
 }
 
 // Whether a message with this header may be written: it is allowed, and a NAK has SEQ 0.
 pub fn is_writable(kind: u8, len: usize, seq: Seq) -> bool
     ensures { result ≡ writable kind len seq.0 }
 {
-    if is_allowed(kind, len) {
-        return kind != NAK || seq.0 == 0;
-    }
-    false
-}
-
-fn is_one_of(kind: u8, a: u8, b: u8) -> bool
-    ensures { result ≡ (eqb kind a || eqb kind b) }
-{
-    kind == a || kind == b
+    is_allowed(kind, len) && (kind != NAK || seq.0 == 0)
 }

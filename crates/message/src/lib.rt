@@ -25,15 +25,16 @@ pub enum Item {
     Message { kind: u8, seq: Seq, len: usize },
 }
 
-// What the bytes say so far: the first item with the bytes dropped before it and the bytes removed with it, or no item yet.
+// The first item of some bytes, and how many of them are removed with it.
+#[derive(Clone, Copy)]
+pub struct FirstItem {
+    pub item: Item,
+    pub removed: usize,
+}
+
+// What the bytes say so far: how many of them are dropped, and the first item, or `None` where none is decided yet.
 #[derive(Drop)]
-pub enum Reading {
-    Undecided {
-        dropped: usize,
-    },
-    Decided {
-        item: Item,
-        dropped: usize,
-        removed: usize,
-    },
+pub struct Reading {
+    pub dropped: usize,
+    pub first: Option<FirstItem>,
 }

@@ -1,24 +1,26 @@
 // The message reader (document 01, "How bytes become items"): the first item of a lent slice. It holds nothing.
 #![tactic(auto)]
 
-ghost use Rattle.std.specs.Prelude.{◌≡◌, ◌+◌, ◌≤◌, ◌<◌, ◌^◌, eqb, length, get_or, take};
+ghost use Rattle.std.specs.Prelude.{◌≡◌, ◌+◌, ◌≤◌, ◌<◌, ◌^◌, ℕ, eqb, length, get_or, take};
 ghost use Rattle.checksum.specs.Checksum.{checksum_of};
-ghost use Rattle.message.specs.Bytes.{from_le16, header_length, payload_at};
+ghost use Rattle.message.specs.Bytes.{from_le16, header_length};
 ghost use Rattle.message.specs.Items.{dropped, len_in, fields_in, header_checksum_in, decided, rules, scan, part_with};
-ghost use Rattle.message.specs.Promises.{item_of, scan_of};
+ghost use Rattle.message.specs.Promises.{item_of, scan_of, scan_with};
 
+use byte_slices::part;
 use message::header::{
     CHECKSUM_PLACE, HEADER_LENGTH, LEN_PLACE, SEQ_PLACE, SYN_LENGTH, TYPE_PLACE, is_allowed,
     syn_stands, total_length,
 };
-use message::{Item, Reading, Seq};
+use message::{FirstItem, Item, Reading, Seq};
 
 // The first item of the bytes, by the six rules.
 pub fn read(bytes: &[u8]) -> Reading
     ensures { scan_of result ≡ scan bytes.now }
 {
     let dropped = count_dropped(bytes);
-    apply_rules(&bytes[dropped..], dropped)
+    let first = apply_rules(&bytes[dropped..]);
+    Reading { dropped, first }
 }
 
 // The payload of what `read` found in these bytes, as a part of them and no copy: empty for all but a message.
@@ -26,78 +28,63 @@ pub fn read(bytes: &[u8]) -> Reading
 pub fn payload(bytes: &[u8], reading: Reading) -> &[u8]
     ensures { result.now ≡ part_with (scan_of reading) bytes.now }
 {
-    let Reading::Decided {
-        item,
-        dropped,
-        removed: _,
-    } = reading
-    else {
+    let dropped = reading.dropped;
+    let Some(first) = reading.first else {
         return &bytes[..0];
     };
-    let Item::Message {
-        kind: _,
-        seq: _,
-        len,
-    } = item
-    else {
+    let Item::Message { len, .. } = first.item else {
         // damaged or forbidden
         return &bytes[..0]; // of no message
     };
-    after_header(bytes, dropped, len)
+    part(bytes, dropped.saturating_add(HEADER_LENGTH), len)
 }
 
 // How many bytes go until SYN stands in front.
 fn count_dropped(bytes: &[u8]) -> usize
     ensures { result ≡ dropped bytes.now }
 {
-    let mut rest = bytes;
-    while 0 < rest.len() {
-        if syn_stands(rest) {
-            return bytes.len() - rest.len();
+    for i in 0..bytes.len() {
+        if syn_stands(&bytes[i..]) {
+            return i;
         }
-        rest = &rest[1..];
     }
     bytes.len()
 }
 
 // Rules 1 to 6, on what is left after dropping.
-fn apply_rules(rest: &[u8], dropped: usize) -> Reading
-    ensures { scan_of result ≡ rules dropped rest.now }
+fn apply_rules(rest: &[u8]) -> Option<FirstItem>
+    ensures { (dropped : ℕ) → scan_with dropped result ≡ rules dropped rest.now }
 {
     if rest.len() < HEADER_LENGTH {
-        return Reading::Undecided { dropped };
+        return None;
     }
     let sound = header_is_sound(rest);
     let kind = rest[TYPE_PLACE];
     let len = len_in(rest);
     let fine = is_allowed(kind, len);
     if !sound {
-        return found(Item::DamagedHeader, dropped, SYN_LENGTH);
+        return found(Item::DamagedHeader, SYN_LENGTH);
     }
     if !fine {
-        return found(Item::Forbidden, dropped, SYN_LENGTH);
+        return found(Item::Forbidden, SYN_LENGTH);
     }
     let total = total_length(len);
     if rest.len() < total {
-        return Reading::Undecided { dropped };
+        return None;
     }
     if !payload_is_sound(&rest[HEADER_LENGTH..], len) {
         // the search goes on behind SYN, and not behind the message
-        return found(Item::DamagedPayload, dropped, SYN_LENGTH);
+        return found(Item::DamagedPayload, SYN_LENGTH);
     }
     let seq = Seq(rest[SEQ_PLACE]);
-    found(Item::Message { kind, seq, len }, dropped, total)
+    found(Item::Message { kind, seq, len }, total)
 }
 
-// An item with the bytes dropped before it and the bytes removed with it.
-fn found(item: Item, dropped: usize, removed: usize) -> Reading
-    ensures { scan_of result ≡ decided (item_of item) dropped removed }
+// An item with the bytes removed with it.
+fn found(item: Item, removed: usize) -> Option<FirstItem>
+    ensures { (dropped : ℕ) → scan_with dropped result ≡ decided (item_of item) dropped removed }
 {
-    Reading::Decided {
-        item,
-        dropped,
-        removed,
-    }
+    Some(FirstItem { item, removed })
 }
 
 // Whether the header's checksum is right.
@@ -130,22 +117,5 @@ fn le16_at(bytes: &[u8], at: usize) -> u16
     requires { at + 1 < length bytes.now }
     ensures { result ≡ from_le16 (get_or bytes.now at 0) (get_or bytes.now (at + 1) 0) }
 {
-    bytes[at] as u16 + bytes[at + 1] as u16 * 256
-}
-
-// The len bytes after a header at a place, or those that there are.
-fn after_header(bytes: &[u8], place: usize, len: usize) -> &[u8]
-    ensures { result.now ≡ payload_at place len bytes.now }
-{
-    if bytes.len() < HEADER_LENGTH {
-        return &bytes[..0];
-    }
-    if bytes.len() - HEADER_LENGTH < place {
-        return &bytes[..0];
-    }
-    let rest = &bytes[place + HEADER_LENGTH..];
-    if rest.len() < len {
-        return rest;
-    }
-    &rest[..len]
+    u16::from_le_bytes([bytes[at], bytes[at + 1]])
 }

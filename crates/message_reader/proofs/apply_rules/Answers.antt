@@ -23,42 +23,42 @@ compared n xs count =
     rw (tail header_length xs, get_or-drop header_length xs n 0, get_or-drop header_length xs (n + 1) 0, next, count)
 
 pub returns-then-rest-lt-HEADER_LENGTH : goal.returns-then-rest-lt-HEADER_LENGTH
-returns-then-rest-lt-HEADER_LENGTH c =
+returns-then-rest-lt-HEADER_LENGTH c n =
     let a = c.args in
-    sym (rule_1 a.dropped a.rest.now (omega arith))
+    sym (rule_1 n a.rest.now (omega arith))
 
 pub returns-then-not-sound : goal.returns-then-not-sound
-returns-then-not-sound c =
+returns-then-not-sound c n =
     let a = c.args in
-    c.found.ensures
+    c.found.ensures n
     ∙ sym
-    (rule_2 a.dropped a.rest.now (omega arith)
+    (rule_2 n a.rest.now (omega arith)
     (sym c.header_is_sound-sound.ensures ∙ c.if-not-sound.true))
 
 pub returns-then-not-fine : goal.returns-then-not-fine
-returns-then-not-fine c =
+returns-then-not-fine c n =
     let a = c.args in
-    c.found-then-not-fine.ensures
+    c.found-then-not-fine.ensures n
     ∙ sym
-    (rule_3 a.dropped a.rest.now (omega arith)
+    (rule_3 n a.rest.now (omega arith)
     (sym c.header_is_sound-sound.ensures ∙ c.if-not-sound.false)
     (rw c.len_in-len.ensures.0 at (sym c.is_allowed-fine.ensures ∙ c.if-not-fine.true)))
 
 pub returns-then-rest-total : goal.returns-then-rest-total
-returns-then-rest-total c =
+returns-then-rest-total c n =
     let a = c.args in
     sym
-    (rule_4 a.dropped a.rest.now (omega arith)
+    (rule_4 n a.rest.now (omega arith)
     (sym c.header_is_sound-sound.ensures ∙ c.if-not-sound.false)
     (rw c.len_in-len.ensures.0 at (sym c.is_allowed-fine.ensures ∙ c.if-not-fine.false))
     (omega (arith, c.len_in-len.ensures.0, c.total_length-total.ensures)))
 
 pub returns-then-not-payload_is_sound : goal.returns-then-not-payload_is_sound
-returns-then-not-payload_is_sound c =
+returns-then-not-payload_is_sound c n =
     let a = c.args in
-    c.found-then-not-payload_is_sound.ensures
+    c.found-then-not-payload_is_sound.ensures n
     ∙ sym
-    (rule_5 a.dropped a.rest.now (omega arith)
+    (rule_5 n a.rest.now (omega arith)
     (sym c.header_is_sound-sound.ensures ∙ c.if-not-sound.false)
     (rw c.len_in-len.ensures.0 at (sym c.is_allowed-fine.ensures ∙ c.if-not-fine.false))
     (omega (arith, c.len_in-len.ensures.0, c.total_length-total.ensures))
@@ -66,12 +66,12 @@ returns-then-not-payload_is_sound c =
     ∙ c.if-not-payload_is_sound.true))
 
 pub returns : goal.returns
-returns c =
+returns c n =
     let a = c.args in
-    c.found-2.ensures
+    c.found-2.ensures n
     ∙ rw (c.total_length-total.ensures, c.len_in-len.ensures.0)
     (sym
-    (rule_6 a.dropped a.rest.now (omega arith)
+    (rule_6 n a.rest.now (omega arith)
     (sym c.header_is_sound-sound.ensures ∙ c.if-not-sound.false)
     (rw c.len_in-len.ensures.0 at (sym c.is_allowed-fine.ensures ∙ c.if-not-fine.false))
     (omega (arith, c.len_in-len.ensures.0, c.total_length-total.ensures))

@@ -20,4 +20,4 @@ pub slice_bounds-apply_rules-start : goal.slice_bounds-apply_rules-start
 slice_bounds-apply_rules-start c = omega (arith, dropped_within c.args.bytes.now)
 
 pub returns : goal.returns
-returns c = whole _ _ _ c.count_dropped-dropped.ensures c.apply_rules.ensures
+returns c = whole _ _ _ c.count_dropped-dropped.ensures (c.apply_rules-first.ensures _)

@@ -1,4 +1,4 @@
--- `message::header::is_writable` meets its contract: each `return` is a case of `writable`.
+-- `message::header::is_writable` meets its contract: each test decides a case of `writable`.
 use Prim.Native.Nat.{ℕ}
 use mathlib.Core.Bool.{true, false, not}
 use mathlib.Core.Path.{◌≡◌, sym, ◌∙◌}
@@ -31,5 +31,5 @@ returns-else-kind-ne-NAK c =
     let a = c.args in
     a_nak a.kind _ _ (sym c.is_allowed.ensures ∙ c.if-is_allowed.true) (omega arith)
 
-pub returns : goal.returns
-returns c = forbidden _ _ _ (sym c.is_allowed.ensures ∙ c.if-is_allowed.false)
+pub returns-else-is_allowed : goal.returns-else-is_allowed
+returns-else-is_allowed c = c.if-is_allowed.false ∙ forbidden _ _ _ (sym c.is_allowed.ensures ∙ c.if-is_allowed.false)
