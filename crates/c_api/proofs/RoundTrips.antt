@@ -9,7 +9,7 @@ use Rattle.message.specs.Bytes.{nak}
 use Rattle.message.specs.Items.{scan, payload_of}
 use Rattle.message.specs.Promises.{Wrote}
 use Rattle.message.specs.Writing.{Answer, accepted, refused, written, placed}
-use Rattle.message.specs.declared.Written.TheVariants.{Length}
+use Rattle.std.specs.Prelude.{Ok}
 use Rattle.message.proofs.Accepted.{passed, refused_with}
 use Rattle.message.proofs.Laws as messages
 use Rattle.message.proofs.RoundTrips.{read_is_accepted}
@@ -39,7 +39,7 @@ module _ {n place t q : ℕ} {p l exit : List ℕ} (wrote : WroteNumber n place 
       → (numbers_of (scan (drop place exit)) ≡ numbers 6 t q 8 (length p) 0 n) × (take (length p) (drop 8 (drop place exit)) ≡ p)
   write_then_read ten =
       let says = as_length (length l) place t q (length p) answer refl wrote.answers ten in
-      let as-wrote : Wrote (Length n) place t q (length p) p l exit =
+      let as-wrote : Wrote (Ok n) place t q (length p) p l exit =
       record { answers = sym says; leaves = rw says at wrote.leaves } in
       let read = messages.write_then_read as-wrote in
       let told : numbers_of (scan (drop place exit)) ≡ numbers 6 t q 8 (length p) 0 n = ap numbers_of read.0 in

@@ -8,7 +8,7 @@ ghost use Rattle.c_api.specs.Code.{numbers_in};
 
 use audit::Finding;
 use message::header::HEADER_LENGTH;
-use message::{Item, Reading, Written};
+use message::{Item, Reading, WriteError};
 
 // What `fizrahum_read` answers.
 #[derive(Drop)]
@@ -23,13 +23,13 @@ pub(crate) struct Numbers {
 }
 
 // The length, or the refusal's number.
-pub(crate) fn of_written(written: Written) -> usize
+pub(crate) fn of_written(written: Result<usize, WriteError>) -> usize
     ensures { result ≡ number_of (answer_of written) }
 {
     match written {
-        Written::Length(n) => n,
-        Written::Forbidden => 7,
-        Written::NoRoom => 6,
+        Ok(n) => n,
+        Err(WriteError::Forbidden) => 7,
+        Err(WriteError::NoRoom) => 6,
     }
 }
 

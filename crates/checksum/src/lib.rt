@@ -14,27 +14,20 @@ pub fn checksum(bytes: &[u8]) -> u16
     ensures { result ≡ checksum_of bytes.now }
 {
     let mut register = START;
-    let mut rest = bytes;
-    while 0 < rest.len() {
-        register = with_byte(register, rest[0]);
-        rest = &rest[1..];
+    for byte in bytes {
+        register = with_byte(register, *byte);
     }
     register // no final change
 }
 
 // The register after one byte, its highest bit first.
-fn with_byte(register: u16, byte: u8) -> u16
+fn with_byte(mut register: u16, byte: u8) -> u16
     ensures { result ≡ with_bits register (bits_of byte) }
 {
-    let x = byte as u16;
-    let r1 = with_bit(register, x / 128 % 2);
-    let r2 = with_bit(r1, x / 64 % 2);
-    let r3 = with_bit(r2, x / 32 % 2);
-    let r4 = with_bit(r3, x / 16 % 2);
-    let r5 = with_bit(r4, x / 8 % 2);
-    let r6 = with_bit(r5, x / 4 % 2);
-    let r7 = with_bit(r6, x / 2 % 2);
-    with_bit(r7, x % 2)
+    for place in [7u32, 6, 5, 4, 3, 2, 1, 0] {
+        register = with_bit(register, (byte >> place) as u16 % 2);
+    }
+    register
 }
 
 // The register after one bit, 0 or 1.

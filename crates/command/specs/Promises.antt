@@ -1,11 +1,10 @@
 -- The paper's values for the structs and enums of the code, and what the writer promises.
-use Rattle.std.specs.Prelude.{ℕ, ◌+◌, cond as if, List, ◌≡◌, length}
+use Rattle.std.specs.Prelude.{ℕ, ◌+◌, cond as if, List, Option, Some, None, ◌≡◌, length}
 use Rattle.message.specs.Writing.{placed}
 use Rattle.command.specs.Payload as spec
 use Rattle.command.specs.Payload.{head_length, payload, is_command, fields_in, rqid_in}
 use Rattle.command.specs.declared.Fields.{Fields}
-use Rattle.command.specs.declared.reader.Reading.{Reading}
-use Rattle.command.specs.declared.reader.Reading.TheVariants as reading
+use Rattle.command.specs.declared.reader.Head.{Head}
 
 -- the fields of a command
 abbrev pub fields_of : Fields → spec.Fields
@@ -25,6 +24,6 @@ unfoldable pub command_in : List ℕ → Command
 command_in xs = if (is_command xs) (command (fields_in xs) (rqid_in xs)) not_command
 
 -- the reader's answers
-abbrev pub command_of : Reading → Command
-command_of reading.NotCommand = not_command
-command_of (reading.Command f i) = command (fields_of f) i.0
+abbrev pub command_of : Option Head → Command
+command_of None = not_command
+command_of (Some head) = command (fields_of head.fields) head.id.0

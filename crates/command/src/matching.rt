@@ -11,18 +11,11 @@ impl Fields {
     pub fn is_answered_by(self, other: Fields) -> bool
         ensures { result ≡ answers (fields_of self) (fields_of other) }
     {
-        if self.tc != other.tc {
-            return false;
-        }
-        if self.cid != other.cid {
-            return false;
-        }
-        if self.iid != other.iid {
-            return false;
-        }
-        if self.tid != other.sid {
-            return false;
-        }
-        self.sid == other.tid
+        let swapped = Fields {
+            tid: other.sid,
+            sid: other.tid,
+            ..other
+        };
+        self == swapped
     }
 }

@@ -1,34 +1,35 @@
 // The command reader (document 01, **Receive**: "LEN under 8 or first byte not 0x80: *not a command*").
-ghost use Rattle.std.specs.Prelude.{◌≡◌, ◌≤◌, length};
-ghost use Rattle.command.specs.Payload.{head_length, fields_in, rqid_in, data_in};
-ghost use Rattle.command.specs.Promises.{fields_of, command_in, command_of};
+ghost use Rattle.std.specs.Prelude.{◌≡◌};
+ghost use Rattle.command.specs.Payload.{data_in};
+ghost use Rattle.command.specs.Promises.{command_in, command_of};
 
-use crate::places::{
-    CID_PLACE, IID_PLACE, MARK_PLACE, RQID_HIGH_PLACE, RQID_PLACE, SID_PLACE, TC_PLACE, TID_PLACE,
-};
 use crate::{COMMAND_MARK, Fields, HEAD_LENGTH, RequestId};
 
-// What a payload says: no command, or one with these fields and this request ID.
-#[derive(Drop)]
-pub enum Reading {
-    NotCommand,
-    Command { fields: Fields, id: RequestId },
+// A command without its data.
+#[derive(Clone, Copy)]
+pub struct Head {
+    pub fields: Fields,
+    pub id: RequestId,
 }
 
-// The command of a payload, without its data.
+// The command of a payload, without its data, where it is one.
 // Ruled out: a command of seven bytes, and CID taken from the request ID.
-pub fn read(payload: &[u8]) -> Reading
+pub fn read(payload: &[u8]) -> Option<Head>
     ensures { command_of result ≡ command_in payload.now }
 {
-    if payload.len() < HEAD_LENGTH {
-        return Reading::NotCommand;
-    }
-    if payload[MARK_PLACE] != COMMAND_MARK {
-        return Reading::NotCommand;
-    }
-    let fields = fields_in(payload);
-    let id = id_in(payload);
-    Reading::Command { fields, id }
+    let &[COMMAND_MARK, tc, tid, sid, iid, low, high, cid, ..] = payload else {
+        return None;
+    };
+    Some(Head {
+        fields: Fields {
+            tc,
+            tid,
+            sid,
+            iid,
+            cid,
+        },
+        id: RequestId(u16::from_le_bytes([low, high])),
+    })
 }
 
 // The data of a payload, as a part of it and no copy: what stands behind the first eight bytes, nothing where there are fewer.
@@ -36,30 +37,5 @@ pub fn read(payload: &[u8]) -> Reading
 pub fn data(payload: &[u8]) -> &[u8]
     ensures { result.now ≡ data_in payload.now }
 {
-    if HEAD_LENGTH <= payload.len() {
-        return &payload[HEAD_LENGTH..];
-    }
-    &payload[..0]
-}
-
-// The fields of a payload that has them.
-fn fields_in(payload: &[u8]) -> Fields
-    requires { head_length ≤ length payload.now }
-    ensures { fields_of result ≡ fields_in payload.now }
-{
-    Fields {
-        tc: payload[TC_PLACE],
-        tid: payload[TID_PLACE],
-        sid: payload[SID_PLACE],
-        iid: payload[IID_PLACE],
-        cid: payload[CID_PLACE],
-    }
-}
-
-// The request ID of a payload that has one.
-fn id_in(payload: &[u8]) -> RequestId
-    requires { head_length ≤ length payload.now }
-    ensures { result.0 ≡ rqid_in payload.now }
-{
-    RequestId(payload[RQID_PLACE] as u16 + payload[RQID_HIGH_PLACE] as u16 * 256)
+    payload.get(HEAD_LENGTH..).unwrap_or_default()
 }

@@ -4,9 +4,6 @@ ghost use Rattle.message.specs.Writing.{placed};
 ghost use Rattle.command.specs.Payload.{head_length, max_data, payload};
 ghost use Rattle.command.specs.Promises.{fields_of, Wrote};
 
-use crate::places::{
-    CID_PLACE, IID_PLACE, MARK_PLACE, RQID_HIGH_PLACE, RQID_PLACE, SID_PLACE, TC_PLACE, TID_PLACE,
-};
 use crate::{COMMAND_MARK, Fields, HEAD_LENGTH, MAX_DATA, RequestId};
 
 // Whether that is too much data for a command, in bytes: what the crate above asks before it lends a part.
@@ -35,12 +32,14 @@ fn write_head(part: &mut [u8], fields: Fields, id: RequestId)
     requires { head_length ≤ length part.old }
     ensures { part.new ≡ placed 0 (payload (fields_of fields) id.0 []) part.old }
 {
-    part[MARK_PLACE] = COMMAND_MARK;
-    part[TC_PLACE] = fields.tc;
-    part[TID_PLACE] = fields.tid;
-    part[SID_PLACE] = fields.sid;
-    part[IID_PLACE] = fields.iid;
-    part[RQID_PLACE] = (id.0 % 256) as u8;
-    part[RQID_HIGH_PLACE] = (id.0 / 256) as u8;
-    part[CID_PLACE] = fields.cid;
+    let Fields {
+        tc,
+        tid,
+        sid,
+        iid,
+        cid,
+    } = fields;
+    let [low, high] = id.0.to_le_bytes();
+    let head = [COMMAND_MARK, tc, tid, sid, iid, low, high, cid];
+    byte_slices::copy(&head, part);
 }

@@ -6,13 +6,13 @@ use mathlib.Core.Option.{none}
 use mathlib.Core.Path.{◌≡◌, refl, sym, ap, ◌∙◌}
 use lib.Dec.{leb}
 use lib.ListN.{length}
+use Rattle.std.specs.Prelude.{Option, Some, None}
 use Rattle.command.specs.Payload.{is_command, fields_in, rqid_in, data_in}
 use Rattle.command.specs.Promises as command
 use Rattle.command.specs.Promises.{fields_of}
 use Rattle.command.specs.declared.Fields.{Fields}
 use Rattle.command.specs.declared.RequestId.{RequestId}
-use Rattle.command.specs.declared.reader.Reading.{Reading}
-use Rattle.command.specs.declared.reader.Reading.TheVariants as reading
+use Rattle.command.specs.declared.reader.Head.{Head}
 use Rattle.link.specs.Promises.{seen_of}
 use Rattle.link.specs.declared.repeats.Seen.{Seen}
 use Rattle.ledger.specs.Parts.{Ledger, Search, oldest}
@@ -69,12 +69,12 @@ is_command_law : (payload : List ℕ) (fields : Fields) (id : RequestId) (b : Bo
 is_command_law payload fields id true h = (refl, cc, cc)
 is_command_law payload fields id false h = (cc, cc, cc)
 
-module _ (payload : List ℕ) {r : Reading} (read : command.command_of r ≡ command.command_in payload) where
-  pub read_none : r ≡ reading.NotCommand → is_command payload ≡ false
+module _ (payload : List ℕ) {r : Option Head} (read : command.command_of r ≡ command.command_in payload) where
+  pub read_none : r ≡ None → is_command payload ≡ false
   unfolding command.command_in
   read_none is = not_command_law payload (is_command payload) (sym (ap command.command_of is) ∙ read)
 
-  pub read_command : (it : Command) → r ≡ reading.Command it.fields it.id → it.len ≡ length (data_in payload)
+  pub read_command : (it : Command) → r ≡ Some (record { fields = it.fields; id = it.id }) → it.len ≡ length (data_in payload)
       → (is_command payload ≡ true) × (command_of it ≡ command_in payload)
   unfolding command.command_in
   read_command it is long =

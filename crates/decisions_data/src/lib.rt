@@ -13,7 +13,7 @@ ghost use Rattle.live_changes.specs.Changing.{Names};
 ghost use Rattle.decisions_verdict.specs.Verdicts.{act_of};
 
 use command::RequestId;
-use command::reader::Reading;
+use command::reader::Head;
 use decisions_verdict::{Verdict, only};
 use endpoint::Requests;
 use ledger::{Cause, Command, Word};
@@ -29,8 +29,7 @@ pub fn on_data(live: Requests, seen: Seen, reserved: u64, payload: &[u8]) -> Ver
         → remembering (seen_of seen) (on_data l clock payload.now) ≡ act_of result [] payload.now l.live)
         × Names result.change live.count }
 {
-    let reading = command::reader::read(payload);
-    let Reading::Command { fields, id } = reading else {
+    let Some(Head { fields, id }) = command::reader::read(payload) else {
         return only(Word::NotCommand, seen);
     };
     let len = command::reader::data(payload).len();

@@ -10,7 +10,7 @@ ghost use Rattle.frames.specs.Promises.{Put};
 
 use command::{Fields, RequestId};
 use message::Seq;
-use message::header::{ACK, DATA_SEQ, HEADER_LENGTH, NAK, total_length};
+use message::header::{ACK, DATA_SEQ, HEADER_LENGTH, NAK};
 
 // Puts the frame of a command at the front of the output, as DATA_SEQ, and answers its length. For the ends of the line, which lend
 // room for the longest message and have refused data that is too long.
@@ -21,8 +21,7 @@ pub fn put_command(output: &mut [u8], seq: Seq, fields: Fields, id: RequestId, d
         output.old output.new }
 {
     let len = command::writer::write(&mut output[HEADER_LENGTH..], fields, id, data);
-    message_writer::write_around(output, 0, DATA_SEQ, seq, len);
-    total_length(len)
+    message_writer::write_around(output, 0, DATA_SEQ, seq, len).unwrap()
 }
 
 // Puts an ACK with this SEQ at the front of the reply, and answers its length. For the ends of the line, which lend room for it.
@@ -31,8 +30,7 @@ pub fn put_ack(reply: &mut [u8], seq: Seq) -> usize
     requires { total 0 ≤ length reply.old }
     ensures { Put result (message ack seq.0 []) reply.old reply.new }
 {
-    message_writer::write(reply, 0, ACK, seq, b"");
-    total_length(0)
+    message_writer::write(reply, 0, ACK, seq, b"").unwrap()
 }
 
 // Puts a NAK at the front of the reply ("A written NAK has SEQ 0"), and answers its length. For the ends of the line likewise.
@@ -41,6 +39,5 @@ pub fn put_nak(reply: &mut [u8]) -> usize
     requires { total 0 ≤ length reply.old }
     ensures { Put result (message nak 0 []) reply.old reply.new }
 {
-    message_writer::write(reply, 0, NAK, Seq(0), b"");
-    total_length(0)
+    message_writer::write(reply, 0, NAK, Seq(0), b"").unwrap()
 }

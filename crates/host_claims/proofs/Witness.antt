@@ -20,7 +20,7 @@ use Rattle.command.specs.Promises.{fields_of}
 use Rattle.command.specs.declared.Fields.{Fields}
 use Rattle.link.specs.SequenceIds.{seq_after}
 use Rattle.link.specs.Frames.{due}
-use Rattle.link.specs.declared.repeats.Seen.TheVariants.{Nothing}
+use Rattle.std.specs.Prelude.{None}
 use Rattle.ledger.specs.Parts.{oldest}
 use Rattle.ledger.specs.Answers.{no_response, no_word, sent, ended, quiet, refused, submitted}
 use Rattle.ledger.specs.Submitting.{id_after, is_live, first_free}
@@ -108,7 +108,7 @@ endpoint live clock seq next held = record {
   clock = clock;
   seq = record { 0 = seq };
   next = record { 0 = next };
-  seen = Nothing;
+  seen = record { last = None };
   held = held;
 }
 

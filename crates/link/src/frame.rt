@@ -41,13 +41,7 @@ impl Frame {
     pub fn is_due(self, clock: u64) -> bool
         ensures { result ≡ due (frame_of self) clock }
     {
-        if self.marked {
-            return true;
-        }
-        if clock < self.sent {
-            return false;
-        }
-        RESEND_TIME <= clock - self.sent
+        self.marked || RESEND_TIME <= clock.saturating_sub(self.sent)
     }
 
     // Whether it may be sent again when it is due; where not, it is given up.
@@ -85,7 +79,7 @@ impl Frame {
     pub fn is_acknowledged_by(self, seq: Seq) -> bool
         ensures { result ≡ acknowledged_by (frame_of self) seq.0 }
     {
-        self.seq.0 == seq.0
+        self.seq == seq
     }
 
     // The milliseconds until it is due without a mark, 0 where it is. For the crates above, which have refused a time later than the
@@ -95,10 +89,6 @@ impl Frame {
         requires { self.sent ≤ clock }
         ensures { result ≡ left (frame_of self) clock }
     {
-        let waited = clock - self.sent;
-        if waited < RESEND_TIME {
-            return RESEND_TIME - waited;
-        }
-        0
+        RESEND_TIME.saturating_sub(clock - self.sent)
     }
 }

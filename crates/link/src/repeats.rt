@@ -6,11 +6,10 @@ ghost use Rattle.link.specs.Promises.{seen_of};
 
 use message::Seq;
 
-// What is remembered of the other side's frames: nothing at first, then the last SEQ.
+// What is remembered of the other side's frames: the last SEQ, none at first.
 #[derive(Clone, Copy)]
-pub enum Seen {
-    Nothing,
-    Last(Seq),
+pub struct Seen {
+    pub last: Option<Seq>,
 }
 
 impl Seen {
@@ -19,7 +18,7 @@ impl Seen {
     pub fn none() -> Seen
         ensures { seen_of result ≡ none_seen }
     {
-        Seen::Nothing
+        Seen { last: None }
     }
 
     // Whether a frame with this SEQ is a repeat.
@@ -27,10 +26,7 @@ impl Seen {
     pub fn is_repeat(self, seq: Seq) -> bool
         ensures { result ≡ is_repeat (seen_of self) seq.0 }
     {
-        match self {
-            Seen::Nothing => false,
-            Seen::Last(last) => last.0 == seq.0,
-        }
+        self.last == Some(seq)
     }
 
     // What is remembered after a frame with this SEQ.
@@ -38,6 +34,6 @@ impl Seen {
     pub fn after(self, seq: Seq) -> Seen
         ensures { seen_of result ≡ seen_after (seen_of self) seq.0 }
     {
-        Seen::Last(seq)
+        Seen { last: Some(seq) }
     }
 }

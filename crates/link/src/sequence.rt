@@ -20,5 +20,5 @@ pub fn first() -> Seq
 pub fn next(seq: Seq) -> Seq
     ensures { result.0 ≡ seq_after seq.0 }
 {
-    Seq(std::num::wrapping_add_u8(seq.0, 1))
+    Seq(seq.0.wrapping_add(1))
 }

@@ -117,7 +117,7 @@ pub(crate) fn of_rows(a: Request, b: Request, c: Request) -> Endpoint {
         clock: CLOCK,
         seq: Seq(1),
         next: RequestId(256),
-        seen: Seen::Nothing,
+        seen: Seen::none(),
         held: 265,
     }
 }

@@ -1,22 +1,17 @@
 -- What each answer of the writer tells: an accepted message fits, and a refusal has one of two numbers and leaves the buffer.
 use Prim.Native.Nat.{ℕ, ◌+◌, ◌≤◌}
 use mathlib.Core.Bool.{Bool, true, false, not, cond as if}
-use mathlib.Core.List.{List, [], ◌∷◌}
-use mathlib.Core.Logic.{◌⊎◌, inl, inr, ⊎_elim}
+use mathlib.Core.Logic.{◌⊎◌, inl, inr}
 use mathlib.Core.Path.{◌≡◌, refl}
 use native.Mathlib.Omega.{arith}
 use lib.Dec.{ltb}
-use lib.ListN.{length}
 use borrow.Author.Tests.{ltb-false}
-use denote.Enum.Declared.{tag_of}
-use types.Run.{OneOf}
-use Rattle.message.specs.Bytes.{message, max_len, total, writable}
-use Rattle.message.specs.Writing.{forbidden_header, no_room, accepted, refused, written, placed, after}
-use Rattle.message.specs.Promises.{answer_of, Wrote}
-use Rattle.message.specs.declared.Written.{Written}
-use Rattle.message.specs.declared.Written.TheVariants.{Length, Forbidden, NoRoom}
+use Rattle.message.specs.Bytes.{max_len, total, writable}
+use Rattle.message.specs.Writing.{forbidden_header, no_room, accepted, refused, written}
+use Rattle.message.specs.Promises.{answer_of}
+use Rattle.std.specs.Prelude.{Result, Ok}
+use Rattle.message.specs.declared.WriteError.{WriteError}
 use Rattle.message.proofs.Headers.{writable_short}
-use Rattle.message.specs.contracts.Written.{the_type}
 
 -- an accepted message passed both tests, and the length is its own
 pub record Passed (n size place type seq len : ℕ) : Type 0 where
@@ -37,7 +32,7 @@ passed {n} s p t q len h =
     record { sound = both.0; room = ltb-false s (p + total len) both.1.0; count = both.1.1 }
 
 -- so it meets what the functions below the writer ask
-pub fitting : (r : Written) (n s p t q len : ℕ) → r ≡ Length n → answer_of r ≡ written s p t q len
+pub fitting : (r : Result ℕ WriteError) (n s p t q len : ℕ) → r ≡ Ok n → answer_of r ≡ written s p t q len
     → (len ≤ max_len) × (p + total len ≤ s)
 fitting r n s p t q len told h =
     let t = passed {n = n} s p t q len (rw told at h) in (writable_short _ len _ t.sound, t.room)
@@ -67,17 +62,3 @@ number false past n k h = inl cc
 pub refused_with : {n : ℕ} (s p t q len : ℕ) → refused n ≡ written s p t q len → (n ≡ forbidden_header) ⊎ (n ≡ no_room)
 unfolding written
 refused_with {n} s p t q len h = number (writable t len q) (ltb s (p + total len)) n (total len) h
-
--- an answer that is no length leaves the buffer
-left : (r : Written) (p : ℕ) (m l : List ℕ) → OneOf (1 ∷ 2 ∷ []) (tag_of the_type r) → l ≡ after (answer_of r) p m l
-left (Length n) p m l k = absurd (⊎_elim (λ e. omega (arith, e)) (λ e. omega (arith, e)) k)
-left Forbidden p m l k = refl
-left NoRoom p m l k = refl
-
--- so the promise of a writer holds after a length and after a refusal
-module _ (r : Written) (place t q len : ℕ) (p l : List ℕ) (answers : answer_of r ≡ written (length l) place t q len) where
-  pub wrote_length : (n : ℕ) (exit : List ℕ) → r ≡ Length n → exit ≡ placed place (message t q p) l → Wrote r place t q len p l exit
-  wrote_length n exit told put = record { answers = answers; leaves = rw told put }
-
-  pub wrote_refusal : OneOf (1 ∷ 2 ∷ []) (tag_of the_type r) → Wrote r place t q len p l l
-  wrote_refusal other = record { answers = answers; leaves = left r place (message t q p) l other }

@@ -78,6 +78,10 @@ pub front : (m l : List ℕ) → m ++ drop (length m) l ≡ placed 0 m l
 unfolding placed
 front m l = rw (zero-add (length m))
 
+-- bytes copied to the front
+pub copied_front : (m n l x : List ℕ) → m ≡ n → x ≡ take (length m) m ++ drop (length m) l → x ≡ placed 0 n l
+copied_front m n l x same copy = rw (copy, take-length m, same) (front n l)
+
 -- bytes copied to the front of what was lent from a place on
 pub copied : (a : ℕ) (m l x : List ℕ) → a + length m ≤ length l → x ≡ take (length m) m ++ drop (length m) (lent_from a l)
     → given_back a l x ≡ placed a m l

@@ -1,11 +1,12 @@
 -- Laws of headers: how long their parts are, and what a writable or an allowed one has.
-use Prim.Native.Nat.{ℕ, ◌+◌, ◌≤◌}
+use Prim.Native.Nat.{ℕ, ◌+◌, ◌/◌, ◌%◌, ◌^◌, ◌≤◌, ◌<◌}
 use mathlib.Core.Bool.{Bool, true, false, true≢false, not, ◌&&◌, ◌||◌, and-false, cond as if}
-use mathlib.Core.List.{List}
-use mathlib.Core.Path.{◌≡◌, refl, sym, ◌∙◌}
+use mathlib.Core.List.{List, [], ◌∷◌}
+use mathlib.Core.Path.{◌≡◌, refl, sym, ap, ◌∙◌}
 use native.Mathlib.Omega.{arith}
 use lib.Dec.{eqb, leb}
 use lib.ListN.{length, length-append}
+use Rattle.std.specs.Int.{w16, to_le_bytes}
 use borrow.Author.Tests.{eq-eqb, ne_eqb, eqb-true, leb-true}
 use Rattle.checksum.specs.Checksum.{checksum_of}
 use Rattle.message.specs.Bytes.{le16, fields, header, header_length, body, message, total, ack, nak, data_seq, data_nsq, max_len, allowed, writable}
@@ -13,6 +14,13 @@ use Rattle.message.specs.Bytes.{le16, fields, header, header_length, body, messa
 pub length_le16 : (n : ℕ) → length (le16 n) ≡ 2
 unfolding le16
 length_le16 n = refl
+
+-- std's bytes of a 16-bit number are those two
+pub le16_bytes : (n : ℕ) → n < 2 ^ 16 → to_le_bytes w16 n ≡ le16 n
+unfolding le16
+le16_bytes n small =
+    let high : n / 256 % 256 ≡ n / 256 = omega arith in
+    ap (λ (b : ℕ). n % 256 ∷ b ∷ []) high
 
 pub length_fields : (t n q : ℕ) → length (fields t n q) ≡ 4
 unfolding fields le16

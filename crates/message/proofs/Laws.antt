@@ -9,11 +9,11 @@ use lib.ListN.{length, take, drop, get_or, take-append-drop}
 use borrow.Author.Tests.{lt-ltb, le-ltb}
 use Rattle.message.specs.Bytes.{payload_at, nak, writable}
 use Rattle.message.specs.Items.{Item, damaged_header, forbidden, damaged_payload, message, decided, scan, part_with, payload_of}
+use Rattle.std.specs.Prelude.{Result, Ok}
 use Rattle.message.specs.Writing.{accepted, refused, written, placed}
 use Rattle.message.specs.Promises.{answer_of, Wrote, scan_of}
 use Rattle.message.specs.declared.Reading.{Reading}
-use Rattle.message.specs.declared.Written.{Written}
-use Rattle.message.specs.declared.Written.TheVariants.{Length}
+use Rattle.message.specs.declared.WriteError.{WriteError}
 use Rattle.message.proofs.Accepted.{says_7, says_6, says_length}
 use Rattle.message.proofs.Headers.{nak_not_writable}
 use Rattle.message.proofs.More as more
@@ -39,19 +39,19 @@ length_answered size place type seq len fine room =
 -- write then read: where `write` answered a length n, the first item from that place on is the message that was written, with
 -- nothing dropped, exactly its n bytes removed and its payload, whatever stands after it
 pub write_then_read : {n place type seq : ℕ} {payload entry exit : List ℕ}
-    → Wrote (Length n) place type seq (length payload) payload entry exit
+    → Wrote (Ok n) place type seq (length payload) payload entry exit
     → (scan (drop place exit) ≡ decided (message type seq (length payload)) 0 n) × (payload_of (drop place exit) ≡ payload)
 write_then_read wrote = trips.write_then_read wrote
 
 -- the same of `write_around`, with the payload that stood there
 pub write_around_then_read : {n place type seq len : ℕ} {entry exit : List ℕ}
-    → Wrote (Length n) place type seq len (payload_at place len entry) entry exit
+    → Wrote (Ok n) place type seq len (payload_at place len entry) entry exit
     → (scan (drop place exit) ≡ decided (message type seq len) 0 n) × (payload_of (drop place exit) ≡ payload_at place len entry)
 write_around_then_read wrote = trips.write_around_then_read wrote
 
 -- read then write: of a message that was read, with SEQ 0 if it is a NAK, `write` answers the length and places the very bytes
 -- that were read, where there is room for them
-pub read_then_write : (xs : List ℕ) {type seq len d r place : ℕ} {entry exit : List ℕ} {answer : Written}
+pub read_then_write : (xs : List ℕ) {type seq len d r place : ℕ} {entry exit : List ℕ} {answer : Result ℕ WriteError}
     → ((i : ℕ) → get_or xs i 0 < 256)
     → scan xs ≡ decided (message type seq len) d r → (type ≡ nak → seq ≡ 0) → place + r ≤ length entry
     → Wrote answer place type seq (length (payload_of xs)) (payload_of xs) entry exit

@@ -9,10 +9,10 @@ use borrow.Author.Tests.{le-ltb}
 use Rattle.message.specs.Bytes as bytes
 use Rattle.message.specs.Bytes.{payload_at, nak, total, allowed}
 use Rattle.message.specs.Items.{message, decided, scan, payload_of}
+use Rattle.std.specs.Prelude.{Result, Ok}
 use Rattle.message.specs.Writing.{accepted, written, placed}
 use Rattle.message.specs.Promises.{answer_of, Wrote}
-use Rattle.message.specs.declared.Written.{Written}
-use Rattle.message.specs.declared.Written.TheVariants.{Length}
+use Rattle.message.specs.declared.WriteError.{WriteError}
 use Rattle.message.proofs.Accepted.{passed, says_length}
 use Rattle.message.proofs.Buffer.{from_placed}
 use Rattle.message.proofs.Found.{message_at}
@@ -22,7 +22,7 @@ use Rattle.message.proofs.WrittenRead.{written_read, payload_length}
 
 -- either writer: LEN is the payload's length
 written_read_back : {n place type seq len : ℕ} {payload entry exit : List ℕ}
-    → Wrote (Length n) place type seq len payload entry exit → length payload ≡ len
+    → Wrote (Ok n) place type seq len payload entry exit → length payload ≡ len
     → (scan (drop place exit) ≡ decided (message type seq len) 0 n) × (payload_of (drop place exit) ≡ payload)
 written_read_back {n} {place} {type} {seq} {len} {payload} {entry} {exit} wrote size =
     let p = passed (length entry) place type seq len wrote.answers in
@@ -34,12 +34,12 @@ written_read_back {n} {place} {type} {seq} {len} {payload} {entry} {exit} wrote 
     (scan_message type seq payload _ fine, payload_of_message type seq payload _ fine)
 
 pub write_then_read : {n place type seq : ℕ} {payload entry exit : List ℕ}
-    → Wrote (Length n) place type seq (length payload) payload entry exit
+    → Wrote (Ok n) place type seq (length payload) payload entry exit
     → (scan (drop place exit) ≡ decided (message type seq (length payload)) 0 n) × (payload_of (drop place exit) ≡ payload)
 write_then_read wrote = written_read_back wrote refl
 
 pub write_around_then_read : {n place type seq len : ℕ} {entry exit : List ℕ}
-    → Wrote (Length n) place type seq len (payload_at place len entry) entry exit
+    → Wrote (Ok n) place type seq len (payload_at place len entry) entry exit
     → (scan (drop place exit) ≡ decided (message type seq len) 0 n) × (payload_of (drop place exit) ≡ payload_at place len entry)
 write_around_then_read {n} {place} {type} {seq} {len} {entry} wrote =
     let p = passed (length entry) place type seq len wrote.answers in
@@ -54,7 +54,7 @@ read_is_accepted xs {type} {seq} {len} {d} {r} size place h zero room =
     (says_length size place type seq len (allowed_writable type len seq m.fine zero)
     (le-ltb size (place + total len) (omega arith)))
 
-pub read_then_write : (xs : List ℕ) {type seq len d r place : ℕ} {entry exit : List ℕ} {answer : Written}
+pub read_then_write : (xs : List ℕ) {type seq len d r place : ℕ} {entry exit : List ℕ} {answer : Result ℕ WriteError}
     → ((i : ℕ) → get_or xs i 0 < 256)
     → scan xs ≡ decided (message type seq len) d r → (type ≡ nak → seq ≡ 0) → place + r ≤ length entry
     → Wrote answer place type seq (length (payload_of xs)) (payload_of xs) entry exit

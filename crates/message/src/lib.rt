@@ -5,13 +5,12 @@
 pub mod header; // what a header may say
 
 // A sequence ID: 8 bits, apart from the 16-bit request IDs.
-#[derive(Clone, Copy)]
+#[derive(Clone, Copy, PartialEq, Eq)]
 pub struct Seq(pub u8);
 
-// What a writer answers: the message's length, refusal 7 or refusal 6.
-#[derive(Drop)]
-pub enum Written {
-    Length(usize),
+// Why a writer writes nothing: refusal 7, or refusal 6.
+#[derive(Clone, Copy, PartialEq, Eq)]
+pub enum WriteError {
     Forbidden,
     NoRoom,
 }

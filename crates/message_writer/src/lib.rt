@@ -10,33 +10,38 @@ ghost use Rattle.message.specs.Promises.{answer_of, Wrote};
 use message::header::{
     FIELDS_LENGTH, HEADER_LENGTH, OVERHEAD, SYN, SYN_LENGTH, is_writable, total_length,
 };
-use message::{Seq, Written};
+use message::{Seq, WriteError};
 
 // Places a message at a place of the buffer, and answers its length. All other bytes stay; a refusal leaves every byte.
-pub fn write(buffer: &mut [u8], place: usize, kind: u8, seq: Seq, payload: &[u8]) -> Written
+pub fn write(
+    buffer: &mut [u8],
+    place: usize,
+    kind: u8,
+    seq: Seq,
+    payload: &[u8],
+) -> Result<usize, WriteError>
     ensures { Wrote result place kind seq.0 (length payload.now) payload.now
         buffer.old buffer.new }
 {
-    let len = payload.len();
-    let answer = answer_to(buffer.len(), place, kind, seq, len);
-    let Written::Length(_) = answer else {
-        return answer;
-    };
+    let length = answer_to(buffer.len(), place, kind, seq, payload.len())?;
     put(buffer, place, kind, seq, payload);
-    answer
+    Ok(length)
 }
 
 // The same for a payload of len bytes that stands in its place already, behind the room for the header.
-pub fn write_around(buffer: &mut [u8], place: usize, kind: u8, seq: Seq, len: usize) -> Written
+pub fn write_around(
+    buffer: &mut [u8],
+    place: usize,
+    kind: u8,
+    seq: Seq,
+    len: usize,
+) -> Result<usize, WriteError>
     ensures { Wrote result place kind seq.0 len (payload_at place len buffer.old)
         buffer.old buffer.new }
 {
-    let answer = answer_to(buffer.len(), place, kind, seq, len);
-    let Written::Length(_) = answer else {
-        return answer;
-    };
+    let length = answer_to(buffer.len(), place, kind, seq, len)?;
     put_around(buffer, place, kind, seq, len);
-    answer
+    Ok(length)
 }
 
 // The message at its place, where it fits: the buffer from there on is lent to the header's and the payload's writers.
@@ -59,36 +64,27 @@ fn put_around(buffer: &mut [u8], place: usize, kind: u8, seq: Seq, len: usize)
     write_checksum(&mut buffer[place + HEADER_LENGTH..], len);
 }
 
-// The answer, with the refusals in the table's order.
-fn answer_to(size: usize, place: usize, kind: u8, seq: Seq, len: usize) -> Written
+// The message's length, with the refusals in the table's order.
+fn answer_to(size: usize, place: usize, kind: u8, seq: Seq, len: usize) -> Result<usize, WriteError>
     ensures { answer_of result ≡ written size place kind seq.0 len }
 {
-    let sound = is_writable(kind, len, seq);
-    let fits = has_room(size, place, len);
-    if !sound {
-        return Written::Forbidden;
+    if !is_writable(kind, len, seq) {
+        return Err(WriteError::Forbidden);
     }
-    if !fits {
-        return Written::NoRoom;
+    if !has_room(size, place, len) {
+        return Err(WriteError::NoRoom);
     }
-    Written::Length(total_length(len))
+    Ok(total_length(len))
 }
 
 // Whether place + 10 + len is not past the size, as a sum of whole numbers.
 fn has_room(size: usize, place: usize, len: usize) -> bool
     ensures { result ≡ not (ltb size (place + total len)) }
 {
-    if size < place {
+    let Some(room) = size.checked_sub(place) else {
         return false;
-    }
-    let room = size - place;
-    if room < OVERHEAD {
-        return false;
-    }
-    if room - OVERHEAD < len {
-        return false;
-    }
-    true
+    };
+    OVERHEAD <= room && len <= room - OVERHEAD
 }
 
 // The header, at the front of the buffer.
@@ -96,8 +92,7 @@ fn write_header(buffer: &mut [u8], kind: u8, len: usize, seq: Seq)
     requires { (header_length ≤ length buffer.old) × (len ≤ max_len) }
     ensures { buffer.new ≡ placed 0 (header kind len seq.0) buffer.old }
 {
-    let syn = SYN;
-    byte_slices::copy(&syn, buffer);
+    byte_slices::copy(&SYN, buffer);
     write_fields(&mut buffer[SYN_LENGTH..], kind, len, seq);
     write_checksum(&mut buffer[SYN_LENGTH..], FIELDS_LENGTH);
 }
@@ -107,10 +102,8 @@ fn write_fields(buffer: &mut [u8], kind: u8, len: usize, seq: Seq)
     requires { (4 ≤ length buffer.old) × (len ≤ max_len) }
     ensures { buffer.new ≡ placed 0 (fields kind len seq.0) buffer.old }
 {
-    buffer[0] = kind;
-    buffer[1] = (len % 256) as u8;
-    buffer[2] = (len / 256) as u8;
-    buffer[3] = seq.0;
+    let [low, high] = (len as u16).to_le_bytes();
+    byte_slices::copy(&[kind, low, high, seq.0], buffer);
 }
 
 // The payload and its checksum, at the front of the buffer.
@@ -136,6 +129,5 @@ fn write_le16(buffer: &mut [u8], n: u16)
     requires { 2 ≤ length buffer.old }
     ensures { buffer.new ≡ placed 0 (le16 n) buffer.old }
 {
-    buffer[0] = (n % 256) as u8;
-    buffer[1] = (n / 256) as u8;
+    byte_slices::copy(&n.to_le_bytes(), buffer);
 }

@@ -14,7 +14,7 @@ use Rattle.decisions_data.proofs.on_data.Goals as goal
 pub returns-in_default : goal.returns-in_default
 returns-in_default c =
     let a = c.args in
-    let read = c.read-reading.ensures in (
+    let read = c.read.ensures in (
       λ l clock store same r.
           data_none l clock a.payload.now a.seen (read_none a.payload.now read c.in_default.is)
           c.only.ensures,
@@ -23,12 +23,12 @@ returns-in_default c =
 
 pub returns-then-is_event : goal.returns-then-is_event
 returns-then-is_event c =
-    let it : Command = record { fields = c.in-Command.fields; id = c.in-Command.id; len = length c.data-len.result.now } in
+    let it : Command = record { fields = c.in-Some.field-0.fields; id = c.in-Some.field-0.id; len = length c.data-len.result.now } in
     let told : let payload = c.args.payload.now in
     (is_command payload ≡ true) × (command_of it ≡ command_in payload) = read_command c.args.payload.now
-    c.read-reading.ensures
+    c.read.ensures
     it
-    c.in-Command.is
+    c.in-Some.is
     (ap length c.data-len.ensures) in (
       λ l clock store same r.
           let a = c.args in
@@ -40,12 +40,12 @@ returns-then-is_event c =
 
 pub returns : goal.returns
 returns c =
-    let it : Command = record { fields = c.in-Command.fields; id = c.in-Command.id; len = length c.data-len.result.now } in
+    let it : Command = record { fields = c.in-Some.field-0.fields; id = c.in-Some.field-0.id; len = length c.data-len.result.now } in
     let told : let payload = c.args.payload.now in
     (is_command payload ≡ true) × (command_of it ≡ command_in payload) = read_command c.args.payload.now
-    c.read-reading.ensures
+    c.read.ensures
     it
-    c.in-Command.is
+    c.in-Some.is
     (ap length c.data-len.ensures) in (
       λ l clock store same r.
           let a = c.args in

@@ -7,29 +7,21 @@ use Rattle.message.proofs.Accepted.{says_7, says_6, says_length}
 use Rattle.message.proofs.Headers.{writable_short}
 use Rattle.message_writer.proofs.answer_to.Goals as goal
 
-pub returns-then-not-sound : goal.returns-then-not-sound
-returns-then-not-sound c =
-    let sound = c.is_writable-sound in
-    sym (says_7 _ _ _ _ _ (sym sound.ensures ∙ c.if-not-sound.true))
+pub returns-then-not-is_writable : goal.returns-then-not-is_writable
+returns-then-not-is_writable c = sym (says_7 _ _ _ _ _ (sym c.is_writable.ensures ∙ c.if-not-is_writable.true))
 
-pub returns-then-not-fits : goal.returns-then-not-fits
-returns-then-not-fits c =
-    let sound = c.is_writable-sound in
-    let fits = c.has_room-fits in
+pub returns-then-not-has_room : goal.returns-then-not-has_room
+returns-then-not-has_room c =
     sym
-    (says_6 _ _ _ _ _ (sym sound.ensures ∙ c.if-not-sound.false)
-    (not-false _ (sym fits.ensures ∙ c.if-not-fits.true)))
+    (says_6 _ _ _ _ _ (sym c.is_writable.ensures ∙ c.if-not-is_writable.false)
+    (not-false _ (sym c.has_room.ensures ∙ c.if-not-has_room.true)))
 
 pub total_length-requires : goal.total_length-requires
-total_length-requires c =
-    let sound = c.is_writable-sound in
-    omega (arith, writable_short _ _ _ (sym sound.ensures ∙ c.if-not-sound.false))
+total_length-requires c = omega (arith, writable_short _ _ _ (sym c.is_writable.ensures ∙ c.if-not-is_writable.false))
 
 pub returns : goal.returns
 returns c =
-    let sound = c.is_writable-sound in
-    let fits = c.has_room-fits in
     ap accepted c.total_length.ensures
     ∙ sym
-    (says_length _ _ _ _ _ (sym sound.ensures ∙ c.if-not-sound.false)
-    (not-true _ (sym fits.ensures ∙ c.if-not-fits.false)))
+    (says_length _ _ _ _ _ (sym c.is_writable.ensures ∙ c.if-not-is_writable.false)
+    (not-true _ (sym c.has_room.ensures ∙ c.if-not-has_room.false)))

@@ -6,5 +6,4 @@ use Rattle.message_writer.proofs.write.Goals as goal
 pub put-requires : goal.put-requires
 put-requires c =
     let a = c.args in
-    let r = c.answer_to-answer in
-    fitting r.result _ (length a.buffer.now) a.place a.kind a.seq.0 (length a.payload.now) c.in-Length.is r.ensures
+    fitting _ _ (length a.buffer.now) a.place a.kind a.seq.0 (length a.payload.now) c.in_ok-length.was c.answer_to.ensures

@@ -1,21 +1,18 @@
--- `message_writer::write_fields` meets its contract: four stores in a row.
-use Prim.Native.Nat.{◌/◌, ◌%◌}
-use mathlib.Core.List.{[], ◌∷◌}
+-- `message_writer::write_fields` meets its contract: the four bytes are copied to the front.
+use Prim.Native.Nat.{ℕ}
+use mathlib.Core.List.{List, [], ◌∷◌}
+use mathlib.Core.Path.{ap, ◌∙◌}
 use native.Mathlib.Omega.{arith}
-use lib.ListN.{length-set}
-use lib.Seq.{sets-eq}
-use Rattle.message.specs.Writing.{placed}
+use lib.ListN.{get_or}
 use Rattle.message.specs.Bytes.{le16, fields}
+use Rattle.message.proofs.Buffer.{copied_front}
+use Rattle.message.proofs.Headers.{le16_bytes}
 use Rattle.message_writer.proofs.write_fields.Goals as goal
 
-pub bounds-buffer-1 : goal.bounds-buffer-1
-bounds-buffer-1 c = simp length-set (omega arith)
-
-pub bounds-buffer-2 : goal.bounds-buffer-2
-bounds-buffer-2 c = simp length-set (omega arith)
-
 pub returns : goal.returns
-unfolding placed fields le16
+unfolding fields le16
 returns c =
     let a = c.args in
-    sets-eq (a.kind ∷ a.len % 256 ∷ a.len / 256 ∷ a.seq.0 ∷ []) a.buffer.now 0 (omega arith)
+    copied_front _ _ a.buffer.now _
+    (ap (λ (b : List ℕ). a.kind ∷ get_or b 0 0 ∷ get_or b 1 0 ∷ a.seq.0 ∷ []) (c.to_le_bytes.ensures ∙ le16_bytes a.len (omega arith)))
+    c.copy.ensures.whole

@@ -1,5 +1,5 @@
 -- `message_writer::write_header` meets its contract: SYN, the fields after it, and their checksum after them.
-use Prim.Native.Nat.{ℕ, ◌+◌, ◌≤◌}
+use Prim.Native.Nat.{ℕ, ◌≤◌}
 use mathlib.Core.List.{List, ◌++◌}
 use mathlib.Core.Path.{◌≡◌, ap, ◌∙◌}
 use native.Mathlib.Omega.{arith}
@@ -7,7 +7,7 @@ use lib.ListN.{length, take, drop}
 use lib.Seq.{take_at}
 use Rattle.checksum.specs.Checksum.{checksum_of}
 use Rattle.message.specs.Writing.{placed}
-use Rattle.message.specs.Bytes.{le16, syn, fields, header}
+use Rattle.message.specs.Bytes.{le16, syn, header}
 use Rattle.message.proofs.Buffer.{lent_from, given_back, tail, length_placed, lent, lent_front, front, neighbours_front}
 use Rattle.message.proofs.Headers.{length_le16, length_fields}
 use Rattle.message_writer.proofs.write_header.Goals as goal

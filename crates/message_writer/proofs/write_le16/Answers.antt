@@ -1,12 +1,9 @@
--- `message_writer::write_le16` meets its contract: two stores in a row.
-use Prim.Native.Nat.{◌/◌, ◌%◌}
-use mathlib.Core.List.{[], ◌∷◌}
-use native.Mathlib.Omega.{arith}
-use lib.Seq.{sets-eq}
-use Rattle.message.specs.Writing.{placed}
-use Rattle.message.specs.Bytes.{le16}
+-- `message_writer::write_le16` meets its contract: the two bytes are copied to the front.
+use mathlib.Core.Path.{◌∙◌}
+use Rattle.message.proofs.Buffer.{copied_front}
+use Rattle.message.proofs.Headers.{le16_bytes}
 use Rattle.message_writer.proofs.write_le16.Goals as goal
 
 pub returns : goal.returns
-unfolding placed le16
-returns c = let n = c.args.n in sets-eq (n % 256 ∷ n / 256 ∷ []) c.args.buffer.now 0 (omega arith)
+returns c =
+    copied_front _ _ c.args.buffer.now _ (c.to_le_bytes.ensures ∙ le16_bytes c.args.n c.ranges.n.fits) c.copy.ensures.whole

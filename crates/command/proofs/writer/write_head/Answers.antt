@@ -1,34 +1,19 @@
--- `command::writer::write_head` meets its contract: eight stores in a row.
-use mathlib.Core.List.{[]}
+-- `command::writer::write_head` meets its contract: the eight bytes are copied to the front.
+use Prim.Native.Nat.{ℕ}
+use mathlib.Core.List.{List, [], ◌∷◌}
+use mathlib.Core.Path.{ap, ◌∙◌}
 use native.Mathlib.Omega.{arith}
-use lib.ListN.{length-set}
-use lib.Seq.{sets-eq}
+use lib.ListN.{get_or}
+use Rattle.message.proofs.Buffer.{copied_front}
+use Rattle.message.proofs.Headers.{le16_bytes}
 use Rattle.message.specs.Bytes.{le16}
-use Rattle.message.specs.Writing.{placed}
-use Rattle.command.specs.Payload.{payload}
-use Rattle.command.specs.Promises.{fields_of}
+use Rattle.command.specs.Payload.{command_mark, payload}
 use Rattle.command.proofs.writer.write_head.Goals as goal
 
-pub bounds-part-1 : goal.bounds-part-1
-bounds-part-1 c = simp length-set (omega arith)
-
-pub bounds-part-2 : goal.bounds-part-2
-bounds-part-2 c = simp length-set (omega arith)
-
-pub bounds-part-3 : goal.bounds-part-3
-bounds-part-3 c = simp length-set (omega arith)
-
-pub bounds-part-4 : goal.bounds-part-4
-bounds-part-4 c = simp length-set (omega arith)
-
-pub bounds-part-5 : goal.bounds-part-5
-bounds-part-5 c = simp length-set (omega arith)
-
-pub bounds-part-6 : goal.bounds-part-6
-bounds-part-6 c = simp length-set (omega arith)
-
 pub returns : goal.returns
-unfolding placed payload le16
+unfolding payload le16
 returns c =
-    let a = c.args in
-    sets-eq (payload (fields_of a.fields) a.id.0 []) a.part.now 0 (omega arith)
+    let f = c.args.fields in
+    copied_front _ _ c.args.part.now _
+    (ap (λ (b : List ℕ). command_mark ∷ f.tc ∷ f.tid ∷ f.sid ∷ f.iid ∷ get_or b 0 0 ∷ get_or b 1 0 ∷ f.cid ∷ []) (c.to_le_bytes.ensures ∙ le16_bytes c.args.id.0 (omega arith)))
+    c.copy.ensures.whole
