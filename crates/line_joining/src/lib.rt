@@ -13,7 +13,7 @@ ghost use Rattle.line.specs.Promises.{Decides};
 use line::store::{move_to_front, put_at};
 use line::{Decision, Place};
 use message::header::{HEADER_LENGTH, SYN_LENGTH, total_length};
-use message::{Item, Reading, Seq};
+use message::{Item, Seq};
 use message_reader::{len_in, payload_is_sound, read};
 
 // Where TYPE and SEQ stand in a message whose SYN is gone.
@@ -50,17 +50,11 @@ fn after_start(array: &mut [u8], from: usize, kept: usize, new: &[u8]) -> Decisi
         return all_wait(array, from, kept, new);
     }
     let header = join_header(&array[from..from + kept], &new[..missing]);
-    let reading = read(&header);
-    let Reading::Decided {
-        item,
-        dropped: _,
-        removed: _,
-    } = reading
-    else {
+    let Some(first) = read(&header).first else {
         let len = len_in(&header);
         return after_header(array, from, kept, len, new);
     };
-    header_item(array, from, kept, item, &new[..missing])
+    header_item(array, from, kept, first.item, &new[..missing])
 }
 
 // The bytes of a header in two parts.

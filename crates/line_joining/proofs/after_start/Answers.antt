@@ -40,7 +40,7 @@ after_header-requires c =
     rw (add-sub_cancel_left a.from a.kept) at
     c.join_header-header.ensures in
     let read =
-    rw (c.in_default.is, header) at c.read-reading.ensures in
+    rw (c.in_default.is, header) at c.read.ensures in
     let w = header_waits a.kept held a.new.now size p.2 p.4 (8 - a.kept) (omega arith) (omega arith) p.5
     (sym read) in
     (p.0, p.1, omega arith, w, rw header at c.len_in-len.ensures.0, c.len_in-len.ensures.1)
@@ -64,9 +64,9 @@ returns c =
     let header =
     rw (add-sub_cancel_left a.from a.kept) at
     c.join_header-header.ensures in
-    let read = rw (c.in-Decided.is, header) at c.read-reading.ensures in
+    let read = rw (c.in-Some.is, header) at c.read.ensures in
     let e = c.header_item.ensures in
-    gives_header a.kept held a.new.now size p.2 p.4 (8 - a.kept) (omega arith) (omega arith) _ c.in-Decided.item
-    c.in-Decided.dropped
-    c.in-Decided.removed a.array.now _ p.5 (sym read) p.0 e.4
+    gives_header a.kept held a.new.now size p.2 p.4 (8 - a.kept) (omega arith) (omega arith) _ c.in-Some.first.item
+    c.read.result.dropped
+    c.in-Some.first.removed a.array.now _ p.5 (sym read) p.0 e.4
     (e.0, e.1 ∙ length-take-le (8 - a.kept) a.new.now (omega arith), e.2, e.3)
