@@ -38,13 +38,9 @@ pub(crate) fn of_reading(reading: Reading) -> Numbers
     requires { place_of (scan_of reading) < 2 ^ 64 }
     ensures { numbers_in result ≡ numbers_of (scan_of reading) }
 {
-    match reading {
-        Reading::Undecided { dropped } => of_no_message(0, dropped, 0),
-        Reading::Decided {
-            item,
-            dropped,
-            removed,
-        } => of_item(item, dropped, removed),
+    match reading.first {
+        None => of_no_message(0, reading.dropped, 0),
+        Some(first) => of_item(first.item, reading.dropped, first.removed),
     }
 }
 

@@ -7,6 +7,7 @@ use Rattle.line.specs.Receiving.{held_max, receive}
 use Rattle.line.specs.Receiving as spec
 use Rattle.line.specs.declared.Place.{Place}
 use Rattle.line.specs.declared.Place.TheVariants.{Held, New}
+use Rattle.line.specs.declared.Part.{Part}
 use Rattle.line.specs.declared.Decision.{Decision}
 use Rattle.line.specs.declared.Received.{Received}
 
@@ -14,6 +15,10 @@ use Rattle.line.specs.declared.Received.{Received}
 abbrev pub answer_of : Option Item → spec.Answer
 answer_of None = spec.more
 answer_of (Some i) = spec.item (item_of i)
+
+-- the bytes of a part of the array
+abbrev pub bytes_of : Part → (array : List ℕ) → List ℕ
+bytes_of p array = take p.count (drop p.from array)
 
 -- the payload of a message from a place of the array or of the new bytes on; it is empty for all else
 abbrev pub part_at : Place → (len : ℕ) (array new : List ℕ) → List ℕ

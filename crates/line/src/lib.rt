@@ -5,6 +5,9 @@
 pub mod payload; // the payload of a message
 pub mod store; // bytes moved within the lent array
 
+ghost use Rattle.std.specs.Prelude.{◌+◌, ◌≤◌};
+ghost use Rattle.line.specs.Receiving.{held_max};
+
 use message::Item;
 
 // The most bytes that are held between calls ("At most 265 bytes are held").
@@ -15,6 +18,14 @@ pub const HELD_MAX: usize = 265;
 pub enum Place {
     Held(usize),
     New(usize),
+}
+
+// A part of the lent array: where it begins, and how many bytes it has.
+#[derive(Clone, Copy)]
+pub struct Part {
+    pub from: usize,
+    pub count: usize,
+    ghost within: { from + count ≤ held_max },
 }
 
 // What was decided: the item, or `None` for *more*, how many new bytes it takes, the part of the array that is to be held, and where

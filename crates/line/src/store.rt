@@ -11,10 +11,8 @@ pub fn move_to_front(array: &mut [u8], from: usize, count: usize)
     if from == 0 {
         return;
     }
-    let mut i = 0;
-    while i < count {
+    for i in 0..count {
         array[i] = array[from + i];
-        i += 1;
     }
 }
 

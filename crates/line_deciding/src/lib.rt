@@ -2,11 +2,11 @@
 // where it is held: into the array, or to its front.
 #![tactic(auto)]
 
-ghost use Rattle.std.specs.Prelude.{◌≡◌, false, [], ◌+◌, ◌≤◌, length, take, Some};
+ghost use Rattle.std.specs.Prelude.{◌≡◌, [], ◌+◌, ◌≤◌, length, take, Some};
 ghost use Rattle.message.specs.Bytes.{header_length};
-ghost use Rattle.message.specs.Items.{undecided, decided, scan};
-ghost use Rattle.message.specs.Promises.{item_of, scan_of};
-ghost use Rattle.line.specs.Receiving.{held_max, decides, taken};
+ghost use Rattle.message.specs.Items.{undecided, scan};
+ghost use Rattle.message.specs.Promises.{scan_with};
+ghost use Rattle.line.specs.Receiving.{held_max, taken};
 ghost use Rattle.line.specs.Code.{breaks};
 ghost use Rattle.line.specs.Promises.{Decides};
 ghost use Rattle.line.specs.declared.Place.TheVariants.{Held};
@@ -15,7 +15,7 @@ use line::store::put_at;
 use line::{Decision, Place};
 use line_joining::{all_held, join};
 use message::header::{HEADER_LENGTH, SYN, total_length};
-use message::{Item, Reading};
+use message::{FirstItem, Item};
 use message_reader::{len_in, read};
 
 // The item that the array's first count bytes and the new ones decide, with all that a call gives. For the crates above, which
@@ -26,40 +26,21 @@ pub fn decide(array: &mut [u8], count: usize, new: &[u8]) -> Decision
     ensures { Decides result (take count array.old) new.now array.new }
 {
     let reading = read(&array[..count]);
-    let Reading::Decided {
-        item,
-        dropped,
-        removed,
-    } = reading
-    else {
-        return without_dropped(array, dropped_of(reading), count, new);
+    let Some(first) = reading.first else {
+        return without_dropped(array, reading.dropped, count, new);
     };
-    in_array(item, dropped, removed, count)
-}
-
-// How many bytes go where nothing is decided.
-fn dropped_of(reading: Reading) -> usize
-    requires { decides (scan_of reading) ≡ false }
-    ensures { scan_of reading ≡ undecided result }
-{
-    let (Reading::Decided {
-        item: _,
-        dropped,
-        removed: _,
-    }
-    | Reading::Undecided { dropped }) = reading;
-    dropped
+    in_array(first, reading.dropped, count)
 }
 
 // An item of the array's first count bytes alone: none is moved, and no new one taken.
-fn in_array(item: Item, dropped: usize, removed: usize, count: usize) -> Decision
-    requires { (dropped + removed ≤ count) × (count ≤ held_max) }
-    ensures { (result.answer ≡ Some item) × (result.taken ≡ 0) × (result.start ≡ dropped + removed)
+fn in_array(first: FirstItem, dropped: usize, count: usize) -> Decision
+    requires { (dropped + first.removed ≤ count) × (count ≤ held_max) }
+    ensures { (result.answer ≡ Some first.item) × (result.taken ≡ 0) × (result.start ≡ dropped + first.removed)
         × (result.start + result.count ≡ count) × (result.payload ≡ Held (dropped + header_length)) }
 {
-    let start = dropped + removed;
+    let start = dropped + first.removed;
     Decision {
-        answer: Some(item),
+        answer: Some(first.item),
         taken: 0,
         start,
         count: count - start,
@@ -87,14 +68,7 @@ fn without_dropped(array: &mut [u8], dropped: usize, count: usize, new: &[u8]) -
 fn breaks_syn(kept: usize, new: &[u8]) -> bool
     ensures { result ≡ breaks kept new.now }
 {
-    let syn = SYN;
-    if kept != 1 {
-        return false;
-    }
-    if new.len() == 0 {
-        return false;
-    }
-    new[0] != syn[1]
+    kept == 1 && new.first().is_some_and(|next| *next != SYN[1])
 }
 
 // Nothing is held: an item is read where the new bytes stand.
@@ -103,29 +77,24 @@ fn in_new(array: &mut [u8], new: &[u8]) -> Decision
     ensures { Decides result [] new.now array.new }
 {
     let reading = read(new);
-    let Reading::Decided {
-        item,
-        dropped,
-        removed,
-    } = reading
-    else {
-        let rest = &new[dropped_of(reading)..];
+    let Some(first) = reading.first else {
+        let rest = &new[reading.dropped..];
         put_at(array, 0, rest);
         return all_held(rest.len(), new.len());
     };
-    item_in_new(array, item, dropped, removed, new)
+    item_in_new(array, first, reading.dropped, new)
 }
 
 // An item of the new bytes: what follows it, of the bytes that decide it, is held.
-fn item_in_new(array: &mut [u8], item: Item, dropped: usize, removed: usize, new: &[u8]) -> Decision
-    requires { (length array.old ≡ held_max) × (scan new.now ≡ decided (item_of item) dropped removed) }
+fn item_in_new(array: &mut [u8], first: FirstItem, dropped: usize, new: &[u8]) -> Decision
+    requires { (length array.old ≡ held_max) × (scan new.now ≡ scan_with dropped (Some first)) }
     ensures { Decides result [] new.now array.new }
 {
-    let end = deciding_length(item, dropped, removed, new);
-    let follows = &new[dropped + removed..end];
+    let end = deciding_length(first, dropped, new);
+    let follows = &new[dropped + first.removed..end];
     put_at(array, 0, follows);
     Decision {
-        answer: Some(item),
+        answer: Some(first.item),
         taken: end,
         start: 0,
         count: follows.len(),
@@ -134,19 +103,14 @@ fn item_in_new(array: &mut [u8], item: Item, dropped: usize, removed: usize, new
 }
 
 // How many bytes decided the item: those of its header, or of the whole message.
-fn deciding_length(item: Item, dropped: usize, removed: usize, new: &[u8]) -> usize
-    requires { scan new.now ≡ decided (item_of item) dropped removed }
-    ensures { (result ≡ taken [] new.now) × (dropped + removed ≤ result) × (dropped + header_length ≤ result)
-        × (result ≤ length new.now) × (result ≤ dropped + removed + held_max) }
+fn deciding_length(first: FirstItem, dropped: usize, new: &[u8]) -> usize
+    requires { scan new.now ≡ scan_with dropped (Some first) }
+    ensures { (result ≡ taken [] new.now) × (dropped + first.removed ≤ result) × (dropped + header_length ≤ result)
+        × (result ≤ length new.now) × (result ≤ dropped + first.removed + held_max) }
 {
-    match item {
-        Item::DamagedHeader => dropped + HEADER_LENGTH,
-        Item::Forbidden => dropped + HEADER_LENGTH,
+    match first.item {
+        Item::DamagedHeader | Item::Forbidden => dropped + HEADER_LENGTH,
         Item::DamagedPayload => dropped + total_length(len_in(&new[dropped..])),
-        Item::Message {
-            kind: _,
-            seq: _,
-            len: _,
-        } => dropped + removed,
+        Item::Message { .. } => dropped + first.removed,
     }
 }

@@ -8,12 +8,12 @@ ghost use Rattle.message.specs.Items.{undecided, len_in, scan};
 ghost use Rattle.message.specs.Writing.{placed};
 ghost use Rattle.line.specs.Receiving.{held_max};
 ghost use Rattle.line.specs.Code.{breaks};
-ghost use Rattle.line.specs.Promises.{Decides};
+ghost use Rattle.line.specs.Promises.{bytes_of, Decides};
 
 use line::store::{move_to_front, put_at};
-use line::{Decision, Place};
+use line::{Decision, HELD_MAX, Part, Place};
 use message::header::{HEADER_LENGTH, SYN_LENGTH, total_length};
-use message::{Item, Reading, Seq};
+use message::{Item, Seq};
 use message_reader::{len_in, payload_is_sound, read};
 
 // Where TYPE and SEQ stand in a message whose SYN is gone.
@@ -24,43 +24,37 @@ const SEQ_BEHIND_SYN: usize = 3;
 // The bytes of a header whose SYN is gone: where the payload begins.
 const HEADER_BEHIND_SYN: usize = 6;
 
-// The item that kept bytes of the array, from a place on, and the new ones decide. SYN stands in front of them, or its first byte.
+// The item that a part of the array and the new bytes decide. SYN stands in front of the part, or its first byte.
 // For the crate above, which has dropped what stands before SYN and tested that the next byte does not break it.
 // Ruled out: a message that is whole and waits for one byte more, and a damaged one behind which the search goes on.
-pub fn join(array: &mut [u8], from: usize, kept: usize, new: &[u8]) -> Decision
-    requires { (length array.old ≡ held_max) × (from + kept ≤ held_max) × (0 < kept)
-        × (scan (take kept (drop from array.old)) ≡ undecided 0) × (breaks kept new.now ≡ false) }
-    ensures { Decides result (take kept (drop from array.old)) new.now array.new }
+pub fn join(array: &mut [u8; HELD_MAX], held: Part, new: &[u8]) -> Decision
+    requires { (0 < held.count) × (scan (bytes_of held array.old) ≡ undecided 0)
+        × (breaks held.count new.now ≡ false) }
+    ensures { Decides result (bytes_of held array.old) new.now array.new }
 {
-    if kept < HEADER_LENGTH {
-        return after_start(array, from, kept, new);
+    if held.count < HEADER_LENGTH {
+        return after_start(array, held, new);
     }
-    let len = len_in(&array[from..]);
-    after_header(array, from, kept, len, new)
+    let len = len_in(&array[held.from..]);
+    after_header(array, held, len, new)
 }
 
 // The start of a header is held.
-fn after_start(array: &mut [u8], from: usize, kept: usize, new: &[u8]) -> Decision
-    requires { (length array.old ≡ held_max) × (from + kept ≤ held_max) × (0 < kept) × (kept < header_length)
-        × (scan (take kept (drop from array.old)) ≡ undecided 0) × (breaks kept new.now ≡ false) }
-    ensures { Decides result (take kept (drop from array.old)) new.now array.new }
+fn after_start(array: &mut [u8; HELD_MAX], held: Part, new: &[u8]) -> Decision
+    requires { (0 < held.count) × (held.count < header_length) × (scan (bytes_of held array.old) ≡ undecided 0)
+        × (breaks held.count new.now ≡ false) }
+    ensures { Decides result (bytes_of held array.old) new.now array.new }
 {
-    let missing = HEADER_LENGTH - kept;
+    let missing = HEADER_LENGTH - held.count;
     if new.len() < missing {
-        return all_wait(array, from, kept, new);
+        return all_wait(array, held, new);
     }
-    let header = join_header(&array[from..from + kept], &new[..missing]);
-    let reading = read(&header);
-    let Reading::Decided {
-        item,
-        dropped: _,
-        removed: _,
-    } = reading
-    else {
+    let header = join_header(&array[held.from..held.from + held.count], &new[..missing]);
+    let Some(first) = read(&header).first else {
         let len = len_in(&header);
-        return after_header(array, from, kept, len, new);
+        return after_header(array, held, len, new);
     };
-    header_item(array, from, kept, item, &new[..missing])
+    header_item(array, held, first.item, &new[..missing])
 }
 
 // The bytes of a header in two parts.
@@ -76,13 +70,13 @@ fn join_header(first: &[u8], second: &[u8]) -> [u8; HEADER_LENGTH]
 }
 
 // An item that the header's last bytes decide.
-fn header_item(array: &mut [u8], from: usize, kept: usize, item: Item, bytes: &[u8]) -> Decision
-    requires { (length array.old ≡ held_max) × (from + kept ≤ held_max) × (kept + length bytes.now ≡ header_length) }
+fn header_item(array: &mut [u8; HELD_MAX], held: Part, item: Item, bytes: &[u8]) -> Decision
+    requires { held.count + length bytes.now ≡ header_length }
     ensures { (result.answer ≡ Some item) × (result.taken ≡ length bytes.now) × (result.start ≡ 0) × (result.count ≡ 6)
-        × (array.new ≡ placed 0 (drop (length syn) (take kept (drop from array.old) ++ bytes.now))
+        × (array.new ≡ placed 0 (drop (length syn) (bytes_of held array.old ++ bytes.now))
         array.old) }
 {
-    append_behind_syn(array, from, kept, bytes);
+    append_behind_syn(array, held, bytes);
     Decision {
         answer: Some(item),
         taken: bytes.len(),
@@ -93,35 +87,34 @@ fn header_item(array: &mut [u8], from: usize, kept: usize, item: Item, bytes: &[
 }
 
 // A header that is sound and allowed stands whole in the kept bytes and the new ones.
-fn after_header(array: &mut [u8], from: usize, kept: usize, len: usize, new: &[u8]) -> Decision
-    requires { (length array.old ≡ held_max) × (from + kept ≤ held_max) × (header_length ≤ kept + length new.now)
-        × (scan (take kept (drop from array.old) ++ take (header_length - kept) new.now) ≡ undecided 0)
-        × (len ≡ len_in (take kept (drop from array.old) ++ take (header_length - kept) new.now)) × (len < 2 ^ 16) }
-    ensures { Decides result (take kept (drop from array.old)) new.now array.new }
+fn after_header(array: &mut [u8; HELD_MAX], held: Part, len: usize, new: &[u8]) -> Decision
+    requires { (header_length ≤ held.count + length new.now)
+        × (scan (bytes_of held array.old ++ take (header_length - held.count) new.now) ≡ undecided 0)
+        × (len ≡ len_in (bytes_of held array.old ++ take (header_length - held.count) new.now)) × (len < 2 ^ 16) }
+    ensures { Decides result (bytes_of held array.old) new.now array.new }
 {
-    let need = total_length(len) - kept;
+    let need = total_length(len) - held.count;
     if new.len() < need {
-        return all_wait(array, from, kept, new);
+        return all_wait(array, held, new);
     }
-    whole_message(array, from, kept, len, need, new)
+    whole_message(array, held, len, need, new)
 }
 
 // The message is whole with `need` new bytes.
 fn whole_message(
-    array: &mut [u8],
-    from: usize,
-    kept: usize,
+    array: &mut [u8; HELD_MAX],
+    held: Part,
     len: usize,
     need: usize,
     new: &[u8],
 ) -> Decision
-    requires { (length array.old ≡ held_max) × (from + kept ≤ held_max) × (header_length ≤ kept + length new.now)
-        × (scan (take kept (drop from array.old) ++ take (header_length - kept) new.now) ≡ undecided 0)
-        × (len ≡ len_in (take kept (drop from array.old) ++ take (header_length - kept) new.now))
-        × (kept + need ≡ total len) × (need ≤ length new.now) }
-    ensures { Decides result (take kept (drop from array.old)) new.now array.new }
+    requires { (header_length ≤ held.count + length new.now)
+        × (scan (bytes_of held array.old ++ take (header_length - held.count) new.now) ≡ undecided 0)
+        × (len ≡ len_in (bytes_of held array.old ++ take (header_length - held.count) new.now))
+        × (held.count + need ≡ total len) × (need ≤ length new.now) }
+    ensures { Decides result (bytes_of held array.old) new.now array.new }
 {
-    append_behind_syn(array, from, kept, &new[..need]);
+    append_behind_syn(array, held, &new[..need]);
     if payload_is_sound(&array[HEADER_BEHIND_SYN..], len) {
         let kind = array[TYPE_BEHIND_SYN];
         let seq = Seq(array[SEQ_BEHIND_SYN]);
@@ -133,7 +126,7 @@ fn whole_message(
             payload: Place::Held(HEADER_BEHIND_SYN),
         };
     }
-    let whole = kept + need;
+    let whole = held.count + need;
     // the search goes on behind SYN, and not behind the message
     Decision {
         answer: Some(Item::DamagedPayload),
@@ -145,14 +138,14 @@ fn whole_message(
 }
 
 // No item: the kept bytes go to the front, and all new ones behind them.
-fn all_wait(array: &mut [u8], from: usize, kept: usize, new: &[u8]) -> Decision
-    requires { (length array.old ≡ held_max) × (from + kept ≤ held_max) × (kept + length new.now ≤ held_max)
-        × (scan (take kept (drop from array.old) ++ new.now) ≡ undecided 0) }
-    ensures { Decides result (take kept (drop from array.old)) new.now array.new }
+fn all_wait(array: &mut [u8; HELD_MAX], held: Part, new: &[u8]) -> Decision
+    requires { (held.count + length new.now ≤ held_max)
+        × (scan (bytes_of held array.old ++ new.now) ≡ undecided 0) }
+    ensures { Decides result (bytes_of held array.old) new.now array.new }
 {
-    move_to_front(array, from, kept);
-    put_at(array, kept, new);
-    all_held(kept + new.len(), new.len())
+    move_to_front(array, held.from, held.count);
+    put_at(array, held.count, new);
+    all_held(held.count + new.len(), new.len())
 }
 
 // No item: all bytes are taken, and count of them held at the front. For the callers here and in the crate above.
@@ -170,17 +163,17 @@ pub fn all_held(count: usize, taken: usize) -> Decision
 }
 
 // The kept bytes and those behind them without SYN, which goes with every item, at the front. The longest message fits so.
-fn append_behind_syn(array: &mut [u8], from: usize, kept: usize, bytes: &[u8])
-    requires { (from + kept ≤ length array.old) × (length syn ≤ kept + length bytes.now)
-        × (kept + length bytes.now ≤ length array.old + length syn) }
+fn append_behind_syn(array: &mut [u8; HELD_MAX], held: Part, bytes: &[u8])
+    requires { (length syn ≤ held.count + length bytes.now)
+        × (held.count + length bytes.now ≤ held_max + length syn) }
     ensures { array.new
-        ≡ placed 0 (drop (length syn) (take kept (drop from array.old) ++ bytes.now)) array.old }
+        ≡ placed 0 (drop (length syn) (bytes_of held array.old ++ bytes.now)) array.old }
 {
-    if kept < SYN_LENGTH {
-        put_at(array, 0, &bytes[SYN_LENGTH - kept..]);
+    if held.count < SYN_LENGTH {
+        put_at(array, 0, &bytes[SYN_LENGTH - held.count..]);
         return;
     }
-    let rest = kept - SYN_LENGTH;
-    move_to_front(array, from + SYN_LENGTH, rest);
+    let rest = held.count - SYN_LENGTH;
+    move_to_front(array, held.from + SYN_LENGTH, rest);
     put_at(array, rest, bytes);
 }

@@ -14,13 +14,13 @@ slice_bounds-read-end-2 c = sym (length-take-le _ _ (omega arith))
 
 pub without_dropped-requires : goal.without_dropped-requires
 without_dropped-requires c =
-    (c.requires.0, c.requires.1, sym c.read-reading.ensures ∙ c.dropped_of.ensures)
+    (c.requires.0, c.requires.1, sym (rw c.in_default.is at c.read-reading.ensures))
 
 pub in_array-requires : goal.in_array-requires
 in_array-requires c =
     let a = c.args in
     let held = take a.count a.array.now in
-    let h = sym (rw c.in-Decided.is at c.read-reading.ensures) in
+    let h = sym (rw c.in-Some.is at c.read-reading.ensures) in
     (omega (arith, scan_within held h, length-take-le a.count a.array.now (omega arith)), omega arith)
 
 pub returns : goal.returns
@@ -28,7 +28,7 @@ returns c =
     let a = c.args in
     let held = take a.count a.array.now in
     let size : length held ≡ a.count = length-take-le a.count a.array.now (omega arith) in
-    let h = sym (rw c.in-Decided.is at c.read-reading.ensures) in
-    gives_item a.array.now held (rw size) c.in_array.result held a.new.now 0 c.in-Decided.item c.in-Decided.dropped
-    c.in-Decided.removed
+    let h = sym (rw c.in-Some.is at c.read-reading.ensures) in
+    gives_item a.array.now held (rw size) c.in_array.result held a.new.now 0 c.in-Some.first.item c.read-reading.result.dropped
+    c.in-Some.first.removed
     (at_held held a.new.now (ap decides h)) h (omega (arith, size)) (rw size c.in_array.ensures)

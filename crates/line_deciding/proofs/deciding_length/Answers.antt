@@ -1,5 +1,6 @@
 -- `line_deciding::deciding_length` meets its contract: of each item, the bytes that decide it.
 use Prim.Native.Nat.{◌+◌}
+use mathlib.Core.Logic.{⊎_elim}
 use mathlib.Core.Path.{sym}
 use native.Mathlib.Omega.{arith}
 use lib.ListN.{length-drop}
@@ -12,15 +13,9 @@ use Rattle.line_deciding.proofs.deciding_length.Goals as goal
 
 pub overflow_add-result : goal.overflow_add-result
 overflow_add-result c =
-    let a = c.args in
-    let h = rw c.in-DamagedHeader.is at c.requires in
-    omega (arith, reach_within a.new.now h)
-
-pub overflow_add-result-in-Forbidden : goal.overflow_add-result-in-Forbidden
-overflow_add-result-in-Forbidden c =
-    let a = c.args in
-    let h = rw c.in-Forbidden.is at c.requires in
-    omega (arith, reach_within a.new.now h)
+    let new = c.args.new.now in
+    ⊎_elim (λ e. omega (arith, reach_within new (rw e at c.requires))) (λ e. omega (arith, reach_within new (rw e at c.requires)))
+    c.in-DamagedHeader.is
 
 pub slice_bounds-len_in-count : goal.slice_bounds-len_in-count
 slice_bounds-len_in-count c =
@@ -53,26 +48,21 @@ overflow_add-result-in-Message c =
 pub returns-in-DamagedHeader : goal.returns-in-DamagedHeader
 returns-in-DamagedHeader c =
     let a = c.args in
-    let h = rw c.in-DamagedHeader.is at c.requires in
-    ends a.item a.dropped a.removed _ a.new.now c.requires (sym (taken_new a.new.now h))
-
-pub returns-in-Forbidden : goal.returns-in-Forbidden
-returns-in-Forbidden c =
-    let a = c.args in
-    let h = rw c.in-Forbidden.is at c.requires in
-    ends a.item a.dropped a.removed _ a.new.now c.requires (sym (taken_new a.new.now h))
+    let new = a.new.now in
+    ends a.first.item a.dropped a.first.removed _ new c.requires
+    (⊎_elim (λ e. sym (taken_new new (rw e at c.requires))) (λ e. sym (taken_new new (rw e at c.requires))) c.in-DamagedHeader.is)
 
 pub returns-in-DamagedPayload : goal.returns-in-DamagedPayload
 returns-in-DamagedPayload c =
     let a = c.args in
     let h = rw c.in-DamagedPayload.is at c.requires in
     let len = rw (tail a.dropped a.new.now) at c.len_in.ensures.0 in
-    ends a.item a.dropped a.removed (a.dropped + c.total_length.result) a.new.now c.requires
+    ends a.first.item a.dropped a.first.removed (a.dropped + c.total_length.result) a.new.now c.requires
     (omega (arith, taken_new a.new.now h, c.total_length.ensures, len))
 
 pub returns-in-Message : goal.returns-in-Message
 returns-in-Message c =
     let a = c.args in
     let h = rw c.in-Message.is at c.requires in
-    ends a.item a.dropped a.removed (a.dropped + a.removed) a.new.now c.requires
+    ends a.first.item a.dropped a.first.removed (a.dropped + a.first.removed) a.new.now c.requires
     (omega (arith, taken_new a.new.now h, (message_at a.new.now h).removed))

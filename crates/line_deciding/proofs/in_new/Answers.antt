@@ -11,36 +11,36 @@ use Rattle.line_deciding.proofs.in_new.Goals as goal
 pub slice_bounds-rest-count : goal.slice_bounds-rest-count
 slice_bounds-rest-count c =
     let new = c.args.new.now in
-    let h = sym c.read-reading.ensures ∙ c.dropped_of.ensures in
+    let h = sym (rw c.in_default.is at c.read-reading.ensures) in
     omega (arith, undecided_left new h, dropped_within new)
 
 pub slice_bounds-rest-start : goal.slice_bounds-rest-start
 slice_bounds-rest-start c =
     let new = c.args.new.now in
-    let h = sym c.read-reading.ensures ∙ c.dropped_of.ensures in
+    let h = sym (rw c.in_default.is at c.read-reading.ensures) in
     omega (arith, undecided_left new h, dropped_within new)
 
 pub put_at-requires : goal.put_at-requires
 put_at-requires c =
-    let e = c.dropped_of in
+    let dropped = c.read-reading.result.dropped in
     let new = c.args.new.now in
-    let h = sym c.read-reading.ensures ∙ e.ensures in
-    rw (tail e.result new) (omega (arith, undecided_left new h))
+    let h = sym (rw c.in_default.is at c.read-reading.ensures) in
+    rw (tail dropped new) (omega (arith, undecided_left new h))
 
 pub returns-in_default : goal.returns-in_default
 returns-in_default c =
-    let e = c.dropped_of in
+    let dropped = c.read-reading.result.dropped in
     let a = c.args in
     let new = a.new.now in
-    let h = sym c.read-reading.ensures ∙ e.ensures in
-    let rest = tail e.result new in
+    let h = sym (rw c.in_default.is at c.read-reading.ensures) in
+    let rest = tail dropped new in
     gives_more _ [] new _ h (rw rest at c.all_held.ensures)
-    (ap (take (length (drop e.result new))) (rw rest at c.put_at.ensures)
-    ∙ front_placed (drop e.result new) a.array.now (omega (arith, undecided_left new h)))
+    (ap (take (length (drop dropped new))) (rw rest at c.put_at.ensures)
+    ∙ front_placed (drop dropped new) a.array.now (omega (arith, undecided_left new h)))
 
 pub item_in_new-requires : goal.item_in_new-requires
 item_in_new-requires c = (
   c.requires,
   sym
-      (rw c.in-Decided.is at c.read-reading.ensures),
+      (rw c.in-Some.is at c.read-reading.ensures),
 )

@@ -9,31 +9,29 @@ pub overflow_sub-need : goal.overflow_sub-need
 overflow_sub-need c =
     let p = c.requires in
     let a = c.args in
-    let held = take a.kept (drop a.from a.array.now) in
-    let size = length_part a.from a.kept a.array.now (omega arith) in
-    let w = waits_for a.kept held a.new.now size p.2 p.3 in
-    omega (arith, w, p.4, c.total_length.ensures)
+    let held = take a.held.count (drop a.held.from a.array.now) in
+    let size = length_part a.held.from a.held.count a.array.now (omega arith) in
+    let w = waits_for a.held.count held a.new.now size p.0 p.1 in
+    omega (arith, w, p.2, c.total_length.ensures)
 
 pub all_wait-requires : goal.all_wait-requires
 all_wait-requires c =
     let p = c.requires in
     let a = c.args in
-    let held = take a.kept (drop a.from a.array.now) in
-    let size = length_part a.from a.kept a.array.now (omega arith) in
-    let w = waits_for a.kept held a.new.now size p.2 p.3 in
+    let held = take a.held.count (drop a.held.from a.array.now) in
+    let size = length_part a.held.from a.held.count a.array.now (omega arith) in
+    let w = waits_for a.held.count held a.new.now size p.0 p.1 in
     let count = c.total_length.ensures in (
-      p.0,
-      p.1,
-      omega (arith, w, p.4, count),
-      all_waits a.kept held a.new.now size p.2 p.3 (omega (arith, w, p.4, count)),
+      omega (arith, w, p.2, count),
+      all_waits a.held.count held a.new.now size p.0 p.1 (omega (arith, w, p.2, count)),
     )
 
 pub whole_message-requires : goal.whole_message-requires
 whole_message-requires c =
     let p = c.requires in
     let a = c.args in
-    let held = take a.kept (drop a.from a.array.now) in
-    let size = length_part a.from a.kept a.array.now (omega arith) in
-    let w = waits_for a.kept held a.new.now size p.2 p.3 in
+    let held = take a.held.count (drop a.held.from a.array.now) in
+    let size = length_part a.held.from a.held.count a.array.now (omega arith) in
+    let w = waits_for a.held.count held a.new.now size p.0 p.1 in
     let count = c.total_length.ensures in
-    (p.0, p.1, p.2, p.3, p.4, omega (arith, w, p.4, count), omega arith)
+    (p.0, p.1, p.2, omega (arith, w, p.2, count), omega arith)

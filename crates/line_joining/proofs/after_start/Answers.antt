@@ -13,9 +13,9 @@ pub all_wait-requires : goal.all_wait-requires
 all_wait-requires c =
     let p = c.requires in
     let a = c.args in
-    let held = take a.kept (drop a.from a.array.now) in
-    let size = length_part a.from a.kept a.array.now (omega arith) in
-    (p.0, p.1, omega arith, start_waits a.kept held a.new.now size p.2 p.4 p.5 (omega arith))
+    let held = take a.held.count (drop a.held.from a.array.now) in
+    let size = length_part a.held.from a.held.count a.array.now (omega arith) in
+    (omega arith, start_waits a.held.count held a.new.now size p.0 p.2 p.3 (omega arith))
 
 pub slice_bounds-join_header-end-2 : goal.slice_bounds-join_header-end-2
 slice_bounds-join_header-end-2 c = sym (length-take-le _ _ (omega arith))
@@ -24,9 +24,9 @@ pub join_header-header-requires : goal.join_header-header-requires
 join_header-header-requires c =
     let a = c.args in
     rw (
-      add-sub_cancel_left a.from a.kept,
-      length_part a.from a.kept a.array.now (omega arith),
-      length-take-le (8 - a.kept) a.new.now (omega arith),
+      add-sub_cancel_left a.held.from a.held.count,
+      length_part a.held.from a.held.count a.array.now (omega arith),
+      length-take-le (8 - a.held.count) a.new.now (omega arith),
     )
     (omega arith)
 
@@ -34,16 +34,16 @@ pub after_header-requires : goal.after_header-requires
 after_header-requires c =
     let p = c.requires in
     let a = c.args in
-    let held = take a.kept (drop a.from a.array.now) in
-    let size = length_part a.from a.kept a.array.now (omega arith) in
+    let held = take a.held.count (drop a.held.from a.array.now) in
+    let size = length_part a.held.from a.held.count a.array.now (omega arith) in
     let header =
-    rw (add-sub_cancel_left a.from a.kept) at
+    rw (add-sub_cancel_left a.held.from a.held.count) at
     c.join_header-header.ensures in
     let read =
-    rw (c.in_default.is, header) at c.read-reading.ensures in
-    let w = header_waits a.kept held a.new.now size p.2 p.4 (8 - a.kept) (omega arith) (omega arith) p.5
+    rw (c.in_default.is, header) at c.read.ensures in
+    let w = header_waits a.held.count held a.new.now size p.0 p.2 (8 - a.held.count) (omega arith) (omega arith) p.3
     (sym read) in
-    (p.0, p.1, omega arith, w, rw header at c.len_in-len.ensures.0, c.len_in-len.ensures.1)
+    (omega arith, w, rw header at c.len_in-len.ensures.0, c.len_in-len.ensures.1)
 
 pub slice_bounds-header_item-end : goal.slice_bounds-header_item-end
 slice_bounds-header_item-end c = sym (length-take-le _ _ (omega arith))
@@ -51,7 +51,7 @@ slice_bounds-header_item-end c = sym (length-take-le _ _ (omega arith))
 pub header_item-requires : goal.header_item-requires
 header_item-requires c =
     let a = c.args in
-    (c.requires.0, c.requires.1, rw (length-take-le (8 - a.kept) a.new.now (omega arith)) (omega arith))
+    rw (length-take-le (8 - a.held.count) a.new.now (omega arith)) (omega arith)
 
 pub returns : goal.returns
 returns c =
@@ -59,14 +59,14 @@ returns c =
     c in
     let p = start.requires in
     let a = start.args in
-    let held = take a.kept (drop a.from a.array.now) in
-    let size = length_part a.from a.kept a.array.now (omega arith) in
+    let held = take a.held.count (drop a.held.from a.array.now) in
+    let size = length_part a.held.from a.held.count a.array.now (omega arith) in
     let header =
-    rw (add-sub_cancel_left a.from a.kept) at
+    rw (add-sub_cancel_left a.held.from a.held.count) at
     c.join_header-header.ensures in
-    let read = rw (c.in-Decided.is, header) at c.read-reading.ensures in
+    let read = rw (c.in-Some.is, header) at c.read.ensures in
     let e = c.header_item.ensures in
-    gives_header a.kept held a.new.now size p.2 p.4 (8 - a.kept) (omega arith) (omega arith) _ c.in-Decided.item
-    c.in-Decided.dropped
-    c.in-Decided.removed a.array.now _ p.5 (sym read) p.0 e.4
-    (e.0, e.1 ∙ length-take-le (8 - a.kept) a.new.now (omega arith), e.2, e.3)
+    gives_header a.held.count held a.new.now size p.0 p.2 (8 - a.held.count) (omega arith) (omega arith) _ c.in-Some.first.item
+    c.read.result.dropped
+    c.in-Some.first.removed a.array.now _ p.3 (sym read) (omega arith) e.4
+    (e.0, e.1 ∙ length-take-le (8 - a.held.count) a.new.now (omega arith), e.2, e.3)

@@ -33,5 +33,5 @@ pub returns : goal.returns
 returns c =
     let p = c.requires in
     let a = c.args in
-    waits _ a.from a.kept a.array.now a.new.now _ _ p.0 p.1 p.2 p.3 c.all_held.ensures
+    waits _ a.held.from a.held.count a.array.now a.new.now _ _ (omega arith) (omega arith) p.0 p.1 c.all_held.ensures
     c.move_to_front.ensures c.put_at.ensures

@@ -5,6 +5,7 @@ use mathlib.Core.Path.{◌≡◌, ◌∙◌}
 use native.Mathlib.Omega.{arith}
 use lib.ListN.{length, take, drop, take-append-drop}
 use Rattle.message.specs.Bytes.{header_length}
+use Rattle.line.specs.Receiving.{held_max}
 use Rattle.message.specs.Items.{len_in, undecided, scan}
 use Rattle.message.proofs.Buffer.{lent_from, tail}
 use Rattle.message.proofs.More.{len_more}
@@ -31,11 +32,10 @@ module _ (from kept : ℕ) (array new : List ℕ) (whole : header_length ≤ kep
 pub after_header-requires : goal.after_header-requires
 after_header-requires c =
     let p = c.requires in
-    let a = c.args in (
-      p.0,
-      p.1,
+    let a = c.args in
+    let long : length a.array.now ≡ held_max = omega arith in (
       omega arith,
-      waits a.from a.kept a.array.now a.new.now (omega arith) (omega arith) p.3,
-      len-held a.from a.kept a.array.now a.new.now (omega arith) (omega arith) _ c.len_in-len.ensures.0,
+      waits a.held.from a.held.count a.array.now a.new.now (omega arith) (omega arith) p.1,
+      len-held a.held.from a.held.count a.array.now a.new.now (omega arith) (omega arith) _ (rw long c.len_in-len.ensures.0),
       c.len_in-len.ensures.1,
     )
