@@ -4,7 +4,7 @@
 use command::RequestId;
 use endpoint::Endpoint;
 use ledger::{Ending, Word};
-use line::Answer;
+use message::Item;
 
 // Open: a refusal's number, or that it is done.
 #[derive(Clone, Copy)]
@@ -39,10 +39,10 @@ pub enum Ended {
     One(Ending),
 }
 
-// What an accepted receive answers: the item or *more*, the word, the bytes taken, the reply's length and the ending.
+// What an accepted receive answers: the item, or `None` for *more*, the word, the bytes taken, the reply's length and the ending.
 #[derive(Clone, Copy)]
 pub struct Receipt {
-    pub item: Answer,
+    pub item: Option<Item>,
     pub word: Word,
     pub taken: usize,
     pub replied: usize,

@@ -16,7 +16,7 @@ use host_acting::{act, decide_in, deliver};
 use host_answers::{ReceiveAnswer, Received};
 use host_deliveries::put_reply;
 use ledger::Word;
-use line::{Answer, HELD_MAX};
+use line::HELD_MAX;
 use message::Item;
 use refusals::{Check, check_receive};
 
@@ -60,7 +60,7 @@ fn accept(
     let seen = e.seen;
     let decision = decide_in(store, held, bytes);
     let answer = decision.answer;
-    let Answer::One(item) = answer else {
+    let Some(item) = answer else {
         return act(e, store, decision, only(Word::Nothing, seen), 0, clock);
     };
     let replied = put_reply(reply, item);

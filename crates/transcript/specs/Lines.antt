@@ -1,9 +1,7 @@
 -- The answer to each call as text (docs/SESSION-SCRIPT.md), in the order of the answer's parts.
-use Rattle.std.specs.Prelude.{ℕ, ◌+◌, Bool, true, false, List, ◌++◌, length}
+use Rattle.std.specs.Prelude.{ℕ, ◌+◌, Bool, true, false, List, ◌++◌, length, Option, None, Some}
 use Rattle.message.specs.declared.Item.{Item}
 use Rattle.message.specs.declared.Item.TheVariants.{DamagedHeader, Forbidden, DamagedPayload, Message}
-use Rattle.line.specs.declared.Answer.{Answer}
-use Rattle.line.specs.declared.Answer.TheVariants.{More, One}
 use Rattle.host_answers.specs.declared.OpenAnswer.{OpenAnswer}
 use Rattle.host_answers.specs.declared.OpenAnswer.TheVariants as opening
 use Rattle.host_answers.specs.declared.SubmitAnswer.{SubmitAnswer}
@@ -29,9 +27,9 @@ one_text DamagedPayload = ascii "damaged-payload"
 one_text (Message type seq len) = named (ascii "message ") type ++ (named (ascii " ") seq.0 ++ named (ascii " ") len)
 
 -- the item, or that more bytes are wanted
-unfoldable pub item_text : Answer → List ℕ
-item_text More = ascii "more"
-item_text (One i) = one_text i
+unfoldable pub item_text : Option Item → List ℕ
+item_text None = ascii "more"
+item_text (Some i) = one_text i
 
 -- a command behind its word: its fields, RQID and the length of its data
 unfoldable pub command_text : List ℕ → Command → List ℕ
@@ -67,7 +65,7 @@ submit_text (submitting.Refused n) = named (ascii "submit refused ") n
 submit_text (submitting.Submitted id) = named (ascii "submitted ") id.0
 
 -- receive: the item and the word
-unfoldable pub judged_text : Answer → Word → List ℕ
+unfoldable pub judged_text : Option Item → Word → List ℕ
 judged_text i w = ascii "received " ++ (item_text i ++ word_text w)
 
 -- then the bytes taken, the reply, the data and the ending

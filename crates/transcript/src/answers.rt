@@ -9,7 +9,7 @@ use crate::parts::{put_ended, put_item, put_lent, put_word};
 use arrayvec::ArrayVec;
 use host_answers::{OpenAnswer, PollAnswer, Receipt, ReceiveAnswer, SubmitAnswer};
 use ledger::Word;
-use line::Answer;
+use message::Item;
 use texts::{put, put_named};
 use transcript_parts::put_ending;
 
@@ -75,7 +75,7 @@ fn put_receipt<const N: usize>(
 }
 
 #[tactic(auto, unfolding(crate::specs::Lines::judged_text))]
-fn put_judged<const N: usize>(out: &mut ArrayVec<u8, N>, item: Answer, word: Word)
+fn put_judged<const N: usize>(out: &mut ArrayVec<u8, N>, item: Option<Item>, word: Word)
     requires { length out.old.items + judged_room ≤ N }
     ensures { Puts judged_room (judged_text item word) out.old.items out.new.items }
 {

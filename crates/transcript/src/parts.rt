@@ -7,20 +7,19 @@ ghost use Rattle.transcript.specs.Lines.{item_room, command_room, word_room, len
 use arrayvec::ArrayVec;
 use host_answers::Ended;
 use ledger::{Command, Word};
-use line::Answer;
 use message::{Item, Seq};
 use texts::{put, put_bytes, put_named, put_spaced};
 use transcript_parts::{put_ending, put_fields};
 
 // The item, or `more`.
 #[tactic(auto, unfolding(crate::specs::Lines::item_text))]
-pub(crate) fn put_item<const N: usize>(out: &mut ArrayVec<u8, N>, answer: Answer)
+pub(crate) fn put_item<const N: usize>(out: &mut ArrayVec<u8, N>, answer: Option<Item>)
     requires { length out.old.items + item_room ≤ N }
     ensures { Puts item_room (item_text answer) out.old.items out.new.items }
 {
     match answer {
-        Answer::More => put(out, b"more"),
-        Answer::One(item) => put_one(out, item),
+        None => put(out, b"more"),
+        Some(item) => put_one(out, item),
     }
 }
 
