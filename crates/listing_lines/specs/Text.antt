@@ -1,7 +1,8 @@
 -- Document 01, "Capture lister": the lines of a listing, as ASCII.
 use Rattle.std.specs.Prelude.{ℕ, List, ◌++◌}
 use Rattle.message.specs.Items.{Item, damaged_header, forbidden, damaged_payload, message}
-use Rattle.listing_words.specs.Words.{ascii, decimal, word}
+use Rattle.texts.specs.Text.{ascii}
+use Rattle.listing_words.specs.Words.{decimal, word}
 
 -- "a line an item (`ACK s 0`, `NAK s 0`, `SEQ s len`, `NSQ s len`, `BADHEAD`, `BADBODY`, `FORBIDDEN`)"
 unfoldable pub line_of : Item → List ℕ

@@ -1,49 +1,52 @@
-// The lines of a listing (document 01, "Capture lister"), each put behind the first bytes of a lent buffer.
-ghost use Rattle.std.specs.Prelude.{◌≡◌, ◌++◌, ◌+◌, ◌≤◌, ◌<◌, length, take};
+// The lines of a listing (document 01, "Capture lister"), each put behind what a vector of fixed room holds.
+ghost use Rattle.std.specs.Prelude.{◌≡◌, ◌++◌, ◌+◌, ◌≤◌, ◌<◌, length};
 ghost use Rattle.message.specs.Items.{message as frame};
 ghost use Rattle.message.specs.Promises.{item_of};
 ghost use Rattle.listing_words.specs.Words.{decimal_limit};
 ghost use Rattle.listing_lines.specs.Text.{line_of, end_of, line_room, len_of};
 
-use listing_words::{put, put_decimal, put_word};
+use arrayvec::ArrayVec;
+use listing_words::{put_decimal, put_word};
 use message::Item;
+use texts::put;
 
 // Room for a line, its end included, in bytes.
 pub(crate) const LINE_ROOM: usize = 16;
 
-// The line of an item, behind the first `at` bytes. Answers where it ends.
-pub(crate) fn put_line(out: &mut [u8], at: usize, item: Item) -> usize
-    requires { (at + line_room ≤ length out.old) × (len_of (item_of item) < decimal_limit) }
-    ensures { (result ≤ length out.new)
-        × (take result out.new ≡ take at out.old ++ line_of (item_of item)) }
+// The line of an item.
+#[tactic(auto, unfolding(crate::specs::Text::line_of))]
+pub(crate) fn put_line<const N: usize>(out: &mut ArrayVec<u8, N>, item: Item)
+    requires { (length out.old.items + line_room ≤ N) × (len_of (item_of item) < decimal_limit) }
+    ensures { (length out.new.items ≤ N) × (out.new.items ≡ out.old.items ++ line_of (item_of item)) }
 {
     match item {
-        Item::DamagedHeader => put(out, at, b"BADHEAD\n"),
-        Item::DamagedPayload => put(out, at, b"BADBODY\n"),
-        Item::Forbidden => put(out, at, b"FORBIDDEN\n"),
-        Item::Message { kind, seq, len } => put_message(out, at, kind, seq.0, len),
+        Item::DamagedHeader => put(out, b"BADHEAD\n"),
+        Item::DamagedPayload => put(out, b"BADBODY\n"),
+        Item::Forbidden => put(out, b"FORBIDDEN\n"),
+        Item::Message { kind, seq, len } => put_message(out, kind, seq.0, len),
     }
 }
 
-fn put_message(out: &mut [u8], at: usize, kind: u8, seq: u8, len: usize) -> usize
-    requires { (at + line_room ≤ length out.old) × (len < decimal_limit) }
-    ensures { (result ≤ length out.new)
-        × (take result out.new ≡ take at out.old ++ line_of (frame kind seq len)) }
+#[tactic(auto, unfolding(crate::specs::Text::line_of))]
+fn put_message<const N: usize>(out: &mut ArrayVec<u8, N>, kind: u8, seq: u8, len: usize)
+    requires { (length out.old.items + line_room ≤ N) × (len < decimal_limit) }
+    ensures { (length out.new.items ≤ N) × (out.new.items ≡ out.old.items ++ line_of (frame kind seq len)) }
 {
-    let named = put_word(out, at, kind);
-    let first = put_decimal(out, named, seq as usize);
-    let between = put(out, first, b" ");
-    let second = put_decimal(out, between, len);
-    put(out, second, b"\n")
+    put_word(out, kind);
+    put_decimal(out, seq as usize);
+    put(out, b" ");
+    put_decimal(out, len);
+    put(out, b"\n");
 }
 
 // The last line: `end` and the held count. Public for `listing`.
 // Ruled out: a count without its line's end, and bytes before it that change.
-pub fn put_end(out: &mut [u8], at: usize, held: usize) -> usize
-    requires { (at + line_room ≤ length out.old) × (held < decimal_limit) }
-    ensures { (result ≤ length out.new) × (take result out.new ≡ take at out.old ++ end_of held) }
+#[tactic(auto, unfolding(crate::specs::Text::end_of))]
+pub fn put_end<const N: usize>(out: &mut ArrayVec<u8, N>, held: usize)
+    requires { (length out.old.items + line_room ≤ N) × (held < decimal_limit) }
+    ensures { (length out.new.items ≤ N) × (out.new.items ≡ out.old.items ++ end_of held) }
 {
-    let named = put(out, at, b"end ");
-    let counted = put_decimal(out, named, held);
-    put(out, counted, b"\n")
+    put(out, b"end ");
+    put_decimal(out, held);
+    put(out, b"\n");
 }

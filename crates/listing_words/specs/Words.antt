@@ -1,13 +1,8 @@
 -- Document 01, "Capture lister": the words and numbers of a listing, as ASCII.
 use Prim.Native.Char.{code}
 use Rattle.std.specs.Prelude.{ℕ, ◌+◌, ◌/◌, ◌%◌, cond as if, List, [], ◌∷◌, eqb, ltb}
-use Prim.Native.String.{String, [] as none, ◌∷◌ as cons}
+use Rattle.texts.specs.Text.{ascii}
 use Rattle.message.specs.Bytes.{ack, nak, data_seq}
-
--- a text as the list of its characters' codes
-abbrev pub ascii : String → List ℕ
-ascii none = []
-ascii (cons c s) = code c ∷ ascii s
 
 -- a decimal digit
 abbrev pub digit : ℕ → ℕ

@@ -40,22 +40,22 @@ pub part_short : (n : ℕ) (l : List ℕ) → length l ≤ lent_max → length (
 part_short n l short = rw (length-take n l) (omega arith)
 
 -- the line of a poll, put together
-pub poll_line_law : (a : PollAnswer) (output : List ℕ) (len sent : ℕ) (b : Bool) {at e r : ℕ} {l x y : List ℕ}
+pub poll_line_law : (a : PollAnswer) (output : List ℕ) (len sent : ℕ) (b : Bool) {l x y : List ℕ}
     → length output ≤ lent_max → len ≡ frame_length a → take sent output ≡ take len output → drop sent output ≡ drop len output
-    → b ≡ touched (lent_from sent output) → Puts (poll_room (take sent output)) at (poll_text a (take sent output)) l x e
-    → Puts end_room e (end_text b) x y r → Puts line_room at (poll_line a output) l y r
+    → b ≡ touched (lent_from sent output) → Puts (poll_room (take sent output)) (poll_text a (take sent output)) l x
+    → Puts end_room (end_text b) x y → Puts line_room (poll_line a output) l y
 unfolding poll_line
 poll_line_law a output len sent b short is front rest test p q =
     let size = part_short sent output short in
     rw (sym is, sym front, sym rest, sym (tail sent output), sym test) (wider (omega arith) (behind p q))
 
 -- the line of a receive, put together
-pub receive_line_law : (a : ReceiveAnswer) (reply buffer : List ℕ) (i j m n : ℕ) (b : Bool) {at e r : ℕ} {l x y : List ℕ}
+pub receive_line_law : (a : ReceiveAnswer) (reply buffer : List ℕ) (i j m n : ℕ) (b : Bool) {l x y : List ℕ}
     → length reply ≤ lent_max → length buffer ≤ lent_max → i ≡ reply_length a → j ≡ data_length a
     → take m reply ≡ take i reply → drop m reply ≡ drop i reply → take n buffer ≡ take j buffer → drop n buffer ≡ drop j buffer
     → b ≡ (touched (lent_from m reply) || touched (lent_from n buffer))
-    → Puts (receive_room (take m reply) (take n buffer)) at (receive_text a (take m reply) (take n buffer)) l x e
-    → Puts end_room e (end_text b) x y r → Puts line_room at (receive_line a reply buffer) l y r
+    → Puts (receive_room (take m reply) (take n buffer)) (receive_text a (take m reply) (take n buffer)) l x
+    → Puts end_room (end_text b) x y → Puts line_room (receive_line a reply buffer) l y
 unfolding receive_line
 receive_line_law a reply buffer i j m n b short brief is and front rest first other test p q =
     let one = part_short m reply short in

@@ -5,6 +5,7 @@ ghost use Rattle.script.specs.Limits.{lent_max};
 ghost use Rattle.runner.specs.Room.{line_room};
 ghost use Rattle.runner.specs.Lent.{touched, receive_line, poll_line};
 
+use arrayvec::ArrayVec;
 use host_answers::{PollAnswer, ReceiveAnswer};
 use lent_lengths::{data_length, frame_length, reply_length};
 use script::calls::LENT_MAX;
@@ -21,34 +22,30 @@ pub(crate) fn filled() -> [u8; LENT_MAX]
 }
 
 // The line of a receive, from its answer and the buffers as it left them.
-pub(crate) fn put_receive(
-    out: &mut [u8],
-    at: usize,
+pub(crate) fn put_receive<const N: usize>(
+    out: &mut ArrayVec<u8, N>,
     answer: ReceiveAnswer,
     reply: &[u8],
     buffer: &[u8],
-) -> usize
-    requires { (at + line_room ≤ length out.old) × (length reply.now ≤ lent_max) × (length buffer.now ≤ lent_max) }
-    ensures { Puts line_room at
-        (receive_line answer reply.now buffer.now) out.old out.new result }
+)
+    requires { (length out.old.items + line_room ≤ N) × (length reply.now ≤ lent_max) × (length buffer.now ≤ lent_max) }
+    ensures { Puts line_room (receive_line answer reply.now buffer.now) out.old.items out.new.items }
 {
     let replied = within(reply_length(answer), reply);
     let handed = within(data_length(answer), buffer);
-    let end = put_received(out, at, answer, &reply[..replied], &buffer[..handed]);
-    if is_touched(&reply[replied..]) {
-        return put_end(out, end, true);
-    }
-    put_end(out, end, is_touched(&buffer[handed..]))
+    put_received(out, answer, &reply[..replied], &buffer[..handed]);
+    let touched = is_touched(&reply[replied..]) || is_touched(&buffer[handed..]);
+    put_end(out, touched);
 }
 
 // The line of a poll, from its answer and the output as it left it.
-pub(crate) fn put_poll(out: &mut [u8], at: usize, answer: PollAnswer, output: &[u8]) -> usize
-    requires { (at + line_room ≤ length out.old) × (length output.now ≤ lent_max) }
-    ensures { Puts line_room at (poll_line answer output.now) out.old out.new result }
+pub(crate) fn put_poll<const N: usize>(out: &mut ArrayVec<u8, N>, answer: PollAnswer, output: &[u8])
+    requires { (length out.old.items + line_room ≤ N) × (length output.now ≤ lent_max) }
+    ensures { Puts line_room (poll_line answer output.now) out.old.items out.new.items }
 {
     let sent = within(frame_length(answer), output);
-    let end = put_polled(out, at, answer, &output[..sent]);
-    put_end(out, end, is_touched(&output[sent..]))
+    put_polled(out, answer, &output[..sent]);
+    put_end(out, is_touched(&output[sent..]));
 }
 
 // A length that a call answered, or the buffer's where that is less.

@@ -1,9 +1,11 @@
-// The calls of a script, run on one endpoint that is passed on. Each puts its answer behind the first `at` bytes of the output.
+// The calls of a script, run on one endpoint that is passed on. Each puts its answer into a vector of fixed room.
 ghost use Rattle.std.specs.Prelude.{◌≡◌, ◌+◌, ◌≤◌, length};
 ghost use Rattle.script.specs.Limits.{lent_max, Within};
 ghost use Rattle.runner.specs.Room.{line_room};
 
 use crate::lent::{filled, put_poll, put_receive};
+use crate::sheet::LINE_ROOM;
+use arrayvec::ArrayVec;
 use command::Fields;
 use endpoint::{Endpoint, STORE_LENGTH};
 use host::{open, poll, receive, submit};
@@ -36,7 +38,7 @@ pub(crate) fn no_session() -> Session {
     }
 }
 
-// Runs the call on a line.
+// Runs the call on a line. Its answer is put together by itself, and joins those that wait behind the first `at` bytes.
 pub(crate) fn run_line(
     session: Session,
     store: &mut [u8; STORE_LENGTH],
@@ -50,43 +52,53 @@ pub(crate) fn run_line(
     let mut space = filled();
     let bytes: &mut [u8] = &mut space;
     let call = read_call(line, bytes);
-    run_call(session, store, call, bytes, out, at)
+    let fault = fault_of(call, session.opened);
+    let Fault::Nothing = fault else {
+        return Ran {
+            session,
+            end: at,
+            fault,
+        };
+    };
+    let mut answer: ArrayVec<u8, LINE_ROOM> = ArrayVec::new();
+    let session = run_call(session, store, call, bytes, &mut answer);
+    byte_slices::copy(&answer, &mut out[at..]);
+    Ran {
+        session,
+        end: at + answer.len(),
+        fault,
+    }
 }
 
-fn run_call(
+// Runs a call with which nothing is wrong.
+fn run_call<const N: usize>(
     session: Session,
     store: &mut [u8; STORE_LENGTH],
     call: Call,
     bytes: &[u8],
-    out: &mut [u8],
-    at: usize,
-) -> Ran
-    requires { (at + line_room ≤ length out.old) × Within (length bytes.now) call }
-    ensures { result.end ≤ length out.new }
+    out: &mut ArrayVec<u8, N>,
+) -> Session
+    requires { (length out.old.items + line_room ≤ N) × Within (length bytes.now) call }
 {
-    let fault = fault_of(call, session.opened);
-    let Fault::Nothing = fault else {
-        return not_run(session, at, fault);
-    };
     let e = session.endpoint;
     match call {
-        Call::Pass => not_run(session, at, Fault::Nothing),
-        Call::Open { reserved } => run_open(reserved, out, at),
+        Call::Pass => session,
+        Call::Open { reserved } => run_open(reserved, out),
         Call::Submit {
             fields,
             wanted,
             clock,
             len,
-        } => run_submit(e, store, fields, &bytes[..len], wanted, clock, out, at),
+        } => run_submit(e, store, fields, &bytes[..len], wanted, clock, out),
         Call::Receive {
             clock,
             reply,
             buffer,
             len,
-        } => run_receive(e, store, &bytes[..len], reply, buffer, clock, out, at),
-        Call::Poll { clock, output } => run_poll(e, store, output, clock, out, at),
+        } => run_receive(e, store, &bytes[..len], reply, buffer, clock, out),
+        Call::Poll { clock, output } => run_poll(e, store, output, clock, out),
         // its fault was told above
-        Call::Faulty(_) => not_run(session, at, Fault::Nothing),
+        Call::Faulty(_) => session,
     }
 }
 
@@ -129,77 +141,54 @@ fn fault_of_other(opened: bool) -> Fault {
     Fault::NotOpened
 }
 
-// Nothing was run.
-fn not_run(session: Session, end: usize, fault: Fault) -> Ran
-    ensures { result.end ≡ end }
-{
-    Ran {
-        session,
-        end,
-        fault,
-    }
-}
-
 // A call was run.
-fn after_call(endpoint: Endpoint, end: usize) -> Ran
-    ensures { result.end ≡ end }
-{
-    let session = Session {
+fn after_call(endpoint: Endpoint) -> Session {
+    Session {
         endpoint,
         opened: true,
-    };
-    Ran {
-        session,
-        end,
-        fault: Fault::Nothing,
     }
 }
 
-fn run_open(reserved: u64, out: &mut [u8], at: usize) -> Ran
-    requires { at + line_room ≤ length out.old }
-    ensures { result.end ≤ length out.new }
+fn run_open<const N: usize>(reserved: u64, out: &mut ArrayVec<u8, N>) -> Session
+    requires { length out.old.items + line_room ≤ N }
 {
     let done = open(reserved);
     let answer = done.answer;
     let endpoint = done.endpoint;
-    let end = put_opened(out, at, answer);
-    let end = put_end(out, end, false);
-    after_call(endpoint, end)
+    put_opened(out, answer);
+    put_end(out, false);
+    after_call(endpoint)
 }
 
-fn run_submit(
+fn run_submit<const N: usize>(
     e: Endpoint,
     store: &mut [u8; STORE_LENGTH],
     fields: Fields,
     bytes: &[u8],
     wanted: bool,
     clock: u64,
-    out: &mut [u8],
-    at: usize,
-) -> Ran
-    requires { at + line_room ≤ length out.old }
-    ensures { result.end ≤ length out.new }
+    out: &mut ArrayVec<u8, N>,
+) -> Session
+    requires { length out.old.items + line_room ≤ N }
 {
     let done = submit(e, store, fields, bytes, wanted, clock);
     let answer = done.answer;
     let endpoint = done.endpoint;
-    let end = put_submitted(out, at, answer);
-    let end = put_end(out, end, false);
-    after_call(endpoint, end)
+    put_submitted(out, answer);
+    put_end(out, false);
+    after_call(endpoint)
 }
 
-fn run_receive(
+fn run_receive<const N: usize>(
     e: Endpoint,
     store: &mut [u8; STORE_LENGTH],
     bytes: &[u8],
     reply: usize,
     buffer: usize,
     clock: u64,
-    out: &mut [u8],
-    at: usize,
-) -> Ran
-    requires { (at + line_room ≤ length out.old) × (reply ≤ lent_max) × (buffer ≤ lent_max) }
-    ensures { result.end ≤ length out.new }
+    out: &mut ArrayVec<u8, N>,
+) -> Session
+    requires { (length out.old.items + line_room ≤ N) × (reply ≤ lent_max) × (buffer ≤ lent_max) }
 {
     let mut first = filled();
     let mut second = filled();
@@ -211,61 +200,54 @@ fn run_receive(
         &mut second[..buffer],
         clock,
         out,
-        at,
     )
 }
 
 // The same with the lent buffers, filled.
-fn receive_with(
+fn receive_with<const N: usize>(
     e: Endpoint,
     store: &mut [u8; STORE_LENGTH],
     bytes: &[u8],
     reply: &mut [u8],
     buffer: &mut [u8],
     clock: u64,
-    out: &mut [u8],
-    at: usize,
-) -> Ran
-    requires { (at + line_room ≤ length out.old) × (length reply.old ≤ lent_max) × (length buffer.old ≤ lent_max) }
-    ensures { result.end ≤ length out.new }
+    out: &mut ArrayVec<u8, N>,
+) -> Session
+    requires { (length out.old.items + line_room ≤ N) × (length reply.old ≤ lent_max) × (length buffer.old ≤ lent_max) }
 {
     let done = receive(e, store, bytes, reply, buffer, clock);
     let answer = done.answer;
     let endpoint = done.endpoint;
-    let end = put_receive(out, at, answer, reply, buffer);
-    after_call(endpoint, end)
+    put_receive(out, answer, reply, buffer);
+    after_call(endpoint)
 }
 
-fn run_poll(
+fn run_poll<const N: usize>(
     e: Endpoint,
     store: &mut [u8; STORE_LENGTH],
     output: usize,
     clock: u64,
-    out: &mut [u8],
-    at: usize,
-) -> Ran
-    requires { (at + line_room ≤ length out.old) × (output ≤ lent_max) }
-    ensures { result.end ≤ length out.new }
+    out: &mut ArrayVec<u8, N>,
+) -> Session
+    requires { (length out.old.items + line_room ≤ N) × (output ≤ lent_max) }
 {
     let mut space = filled();
-    poll_with(e, store, &mut space[..output], clock, out, at)
+    poll_with(e, store, &mut space[..output], clock, out)
 }
 
 // The same with the lent buffer, filled.
-fn poll_with(
+fn poll_with<const N: usize>(
     e: Endpoint,
     store: &mut [u8; STORE_LENGTH],
     output: &mut [u8],
     clock: u64,
-    out: &mut [u8],
-    at: usize,
-) -> Ran
-    requires { (at + line_room ≤ length out.old) × (length output.old ≤ lent_max) }
-    ensures { result.end ≤ length out.new }
+    out: &mut ArrayVec<u8, N>,
+) -> Session
+    requires { (length out.old.items + line_room ≤ N) × (length output.old ≤ lent_max) }
 {
     let done = poll(e, store, output, clock);
     let answer = done.answer;
     let endpoint = done.endpoint;
-    let end = put_poll(out, at, answer, output);
-    after_call(endpoint, end)
+    put_poll(out, answer, output);
+    after_call(endpoint)
 }

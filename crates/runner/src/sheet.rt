@@ -5,7 +5,7 @@ ghost use Rattle.runner.specs.Room.{line_room};
 use std::io::Write;
 
 // Room for a line, its end included, in bytes: two buffers of 4,096 bytes in hexadecimal, and the rest.
-const LINE_ROOM: usize = 17000;
+pub(crate) const LINE_ROOM: usize = 17000;
 
 // How many bytes wait, and whether every write was taken whole.
 #[derive(Drop)]

@@ -1,27 +1,30 @@
 -- Texts put one behind the other, numbers and bytes among them.
 use Prim.Native.Nat.{ℕ, zero, suc, ◌+◌, ◌-◌, ◌/◌, ◌%◌, ◌^◌, ◌≤◌, ◌<◌}
 use mathlib.Core.Bool.{Bool, true, false}
-use mathlib.Core.List.{List, [], ◌∷◌, ◌++◌, append_assoc}
+use mathlib.Core.List.{List, [], ◌∷◌, ◌++◌, append_assoc, append-nil}
 use mathlib.Core.Path.{◌≡◌, refl, ap, ◌∙◌}
 use native.Mathlib.Nat.{pow-suc, one-le-pow, pow-le-pow_right}
 use native.Mathlib.Omega.{arith}
-use lib.Dec.{leb}
-use lib.ListN.{length, take, get_or, set, length-take, length-set}
-use lib.Seq.{take-suc-set}
-use borrow.Author.Tests.{lt-ltb, le-ltb, leb-true, leb-false}
-use Rattle.message.proofs.Buffer.{lent_from, tail}
+use lib.Dec.{leb, ltb}
+use lib.ListN.{length, take, drop, get_or, length-append, drop_of_length-le}
+use borrow.Author.Tests.{lt-ltb, le-ltb, leb-true, leb-false, ltb-false}
+use Rattle.std.proofs.lemmas.List.{drop_more}
 use Rattle.io.specs.Digits.{hex_digit_ascii, last_digits, IsDigitCount}
-use Rattle.texts.specs.Text.{ascii, decimal_in, decimal, digits_max, pairs, shown_as, Puts}
+use Rattle.texts.specs.Text.{ascii, decimal_in, decimal, digits_max, pair, pairs, shown_as, Puts}
 
 -- one text behind another
-pub behind : {k j at e r : ℕ} {m n l x y : List ℕ} → Puts k at m l x e → Puts j e n x y r → Puts (k + j) at (m ++ n) l y r
-behind {at = at} {m = m} {n = n} {l = l} p q = record {
+pub behind : {k j : ℕ} {m n l x y : List ℕ} → Puts k m l x → Puts j n x y → Puts (k + j) (m ++ n) l y
+behind {m = m} {n = n} {l = l} p q = record {
   within = omega (arith, p.within, q.within);
-  reads = q.reads ∙ ap (λ (z : List ℕ). z ++ n) p.reads ∙ append_assoc (take at l) m n;
+  reads = q.reads ∙ ap (λ (z : List ℕ). z ++ n) p.reads ∙ append_assoc l m n;
 }
 
+-- the same text, in other words
+pub puts : {m n l x : List ℕ} → m ≡ n → Puts (length m) m l x → Puts (length n) n l x
+puts same p = rw same at p
+
 -- the same text in a larger room
-pub wider : {k j at r : ℕ} {m l x : List ℕ} → k ≤ j → Puts k at m l x r → Puts j at m l x r
+pub wider : {k j : ℕ} {m l x : List ℕ} → k ≤ j → Puts k m l x → Puts j m l x
 wider more p = record { within = omega (arith, p.within); reads = p.reads }
 
 -- the fewest digits that hold a number are its decimal ones
@@ -51,40 +54,45 @@ few_digits_by k n false test few small =
     let power : 10 ^ 20 ≤ 10 ^ (k - 1) = pow-le-pow_right (omega arith) {i = 20} {j = k - 1} (omega arith) in
     omega (arith, power, few.2 (omega arith))
 
-pub few_digits : (k n : ℕ) → IsDigitCount 10 1 n k → n < 2 ^ 64 → k ≤ digits_max
-few_digits k n few small = few_digits_by k n (leb k digits_max) refl few small
+-- the digits that the kit writes are the decimal ones
+pub digits_of : (k n : ℕ) → IsDigitCount 10 1 n k → n < 2 ^ 64 → last_digits 10 k n ≡ decimal n
+digits_of k n few small = as_decimal k digits_max n (few_digits_by k n (leb k digits_max) refl few small) few.0 few.1 few.2
 
--- a number put
-pub number_put : (k n : ℕ) (d : List ℕ) {at r : ℕ} {l x : List ℕ} → k ≤ digits_max → IsDigitCount 10 1 n k → take k d ≡ last_digits 10 k n
-    → Puts (length (take k d)) at (take k d) l x r → Puts digits_max at (decimal n) l x r
-number_put k n d {at = at} {l = l} fits few is p = record {
-  within = omega (arith, p.within, length-take k d);
-  reads = p.reads ∙ ap (λ (z : List ℕ). take at l ++ z) (is ∙ as_decimal k digits_max n fits few.0 few.1 few.2);
-}
+-- a number has no more digits than its definition goes through
+digits_by : (k n : ℕ) (b : Bool) → ltb n 10 ≡ b → length (decimal_in k (n / 10)) ≤ k → length (decimal_in (suc k) n) ≤ suc k
+unfolding decimal_in
+digits_by k n true test rest = rw test (omega arith)
+digits_by k n false test rest = rw (test, length-append) (omega (arith, rest))
 
--- two bytes set one behind the other
-pub pair_set : (l : List ℕ) (at a b : ℕ) → at + 2 ≤ length l
-    → take (at + 2) (set (set l at a) (at + 1) b) ≡ take at l ++ (a ∷ b ∷ [])
-pair_set l at a b fits =
-    let two : at + 2 ≡ suc (at + 1) = omega arith in
-    let one : at + 1 ≡ suc at = omega arith in
-    rw (two, take-suc-set (set l at a) (at + 1) b (simp length-set (omega arith)), one, take-suc-set l at a (omega arith))
-    (append_assoc (take at l) (a ∷ []) (b ∷ []))
+pub digits_within : (k n : ℕ) → length (decimal_in k n) ≤ k
+unfolding decimal_in
+digits_within zero n = omega arith
+digits_within (suc k) n = digits_by k n (ltb n 10) refl (digits_within k (n / 10))
 
--- one more byte, as the invariant of the loop over them
-pub pairs_step : (e at : ℕ) (s all l x y : List ℕ) → 0 < length s
-    → take (e + 2) y ≡ take e x ++ (hex_digit_ascii (get_or s 0 0 / 16) ∷ hex_digit_ascii (get_or s 0 0 % 16) ∷ [])
-    → take e x ++ pairs s ≡ take at l ++ pairs all → take (e + 2) y ++ pairs (lent_from 1 s) ≡ take at l ++ pairs all
+-- the two digits that the kit writes of a byte are its pair
+two_digits_by : (k b : ℕ) (t : Bool) → leb k 2 ≡ t → IsDigitCount 16 2 b k → b < 256 → k ≡ 2
+two_digits_by k b true test few small = omega (arith, few.0, leb-true k 2 test)
+two_digits_by k b false test few small =
+    let more : 2 < k = leb-false k 2 test in
+    let power : 16 ^ 2 ≤ 16 ^ (k - 1) = pow-le-pow_right (omega arith) {i = 2} {j = k - 1} (omega arith) in
+    omega (arith, power, few.2 (omega arith))
+
+pub pair_of : (k b : ℕ) (d : List ℕ) → IsDigitCount 16 2 b k → b < 256 → take k d ≡ last_digits 16 k b → take k d ≡ pair b
+pair_of k b d few small digits =
+    let two : k ≡ 2 = two_digits_by k b (leb k 2) refl few small in
+    let high : b / 16 % 16 ≡ b / 16 = omega arith in
+    digits ∙ rw (two, high)
+
+-- a byte put, as the invariant of the loop over them, and the end of it
+pub pairs_step : (s : List ℕ) (i : ℕ) (l x y : List ℕ) → i < length s → y ≡ x ++ pair (get_or s i 0) → x ++ pairs (drop i s) ≡ l
+    → y ++ pairs (drop (i + 1) s) ≡ l
 unfolding pairs
-pairs_step e at [] all l x y some put inv = let z : ◌≡◌ {A = ℕ} 0 1 = omega arith in cc
-pairs_step e at (b ∷ s) all l x y some put inv =
-    rw (tail 1 (b ∷ s), put, append_assoc (take e x) (hex_digit_ascii (b / 16) ∷ hex_digit_ascii (b % 16) ∷ []) (pairs s)) inv
+pairs_step s i l x y within put so_far =
+    rw (put, append_assoc x (pair (get_or s i 0)) (pairs (drop (i + 1) s))) (rw (drop_more s i 0 within) at so_far)
 
--- no more bytes
-pub pairs_end : (s : List ℕ) → length s ≤ 0 → pairs s ≡ []
+pub pairs_end : (s : List ℕ) (i : ℕ) (l x : List ℕ) → length s ≤ i → x ++ pairs (drop i s) ≡ l → x ≡ l
 unfolding pairs
-pairs_end [] none = refl
-pairs_end (b ∷ s) none = let z : ◌≡◌ {A = ℕ} 0 1 = omega arith in cc
+pairs_end s i l x over so_far = rw (drop_of_length-le s {i = i} over, append-nil) at so_far
 
 -- bytes shown: none, and some
 pub shown_none : (s : List ℕ) → length s ≡ 0 → shown_as s ≡ ascii "-"
@@ -94,5 +102,5 @@ shown_none (b ∷ s) none = let z : ◌≡◌ {A = ℕ} 0 1 = omega arith in cc
 
 pub shown_some : (s : List ℕ) → (length s ≡ 0 → ⊥) → shown_as s ≡ pairs s
 unfolding shown_as
-shown_some [] some = let z : ◌≡◌ {A = ℕ} 0 1 = omega (arith, some refl) in cc
+shown_some [] some = absurd (some refl)
 shown_some (b ∷ s) some = refl

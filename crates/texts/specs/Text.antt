@@ -1,6 +1,6 @@
 -- Words, numbers and bytes as text (docs/SESSION-SCRIPT.md), in ASCII.
 use Prim.Native.Char.{code}
-use Rattle.std.specs.Prelude.{ℕ, zero, suc, ◌+◌, ◌*◌, ◌/◌, ◌%◌, ◌≤◌, cond as if, List, [], ◌∷◌, ◌++◌, ◌≡◌, ltb, length, take}
+use Rattle.std.specs.Prelude.{ℕ, zero, suc, ◌+◌, ◌*◌, ◌/◌, ◌%◌, ◌≤◌, cond as if, List, [], ◌∷◌, ◌++◌, ◌≡◌, ltb, length}
 use Prim.Native.String.{String, [] as none, ◌∷◌ as cons}
 use Rattle.io.specs.Digits.{hex_digit_ascii}
 
@@ -26,10 +26,14 @@ decimal n = decimal_in digits_max n
 abbrev pub named : List ℕ → ℕ → List ℕ
 named word n = word ++ decimal n
 
--- bytes as pairs of lowercase hexadecimal digits
+-- a byte as a pair of lowercase hexadecimal digits
+abbrev pub pair : ℕ → List ℕ
+pair b = hex_digit_ascii (b / 16) ∷ hex_digit_ascii (b % 16) ∷ []
+
+-- bytes as such pairs
 unfoldable pub pairs : List ℕ → List ℕ
 pairs [] = []
-pairs (b ∷ s) = hex_digit_ascii (b / 16) ∷ hex_digit_ascii (b % 16) ∷ pairs s
+pairs (b ∷ s) = pair b ++ pairs s
 
 -- the same, `-` for none
 unfoldable pub shown_as : List ℕ → List ℕ
@@ -43,7 +47,7 @@ spaced_room = 1 + digits_max
 abbrev pub pairs_room : List ℕ → ℕ
 pairs_room s = 2 * length s
 
--- a text was put behind the first `at` bytes of a buffer, up to `end`, within a room
-pub record Puts (room at : ℕ) (text entry exit : List ℕ) (end : ℕ) : Type 0 where
-  pub within : end ≤ at + room
-  pub reads : take end exit ≡ take at entry ++ text
+-- a text was put behind what a vector held, within a room
+pub record Puts (room : ℕ) (text entry exit : List ℕ) : Type 0 where
+  pub within : length exit ≤ length entry + room
+  pub reads : exit ≡ entry ++ text

@@ -1,94 +1,70 @@
-// Words, numbers and bytes as text, each put behind the first `at` bytes of a lent buffer: for the lines of a transcript. Each
-// answers where it ends, and asks for room, which the caller has seen to.
+// Words, numbers and bytes as text, each put behind what a vector of fixed room holds: for the lines of a transcript and of a
+// listing. Each asks for room, which the caller has seen to.
 #![tactic(auto)]
 
-ghost use Rattle.std.specs.Prelude.{◌≡◌, ◌∷◌, [], ◌++◌, ◌+◌, ◌/◌, ◌%◌, ◌≤◌, ◌<◌, length, take};
-ghost use Rattle.io.specs.Digits.{hex_digit_ascii};
-ghost use Rattle.texts.specs.Text.{ascii, decimal, digits_max, named, spaced_room, pairs, shown_as, pairs_room, Puts};
+ghost use Rattle.std.specs.Prelude.{◌≡◌, ◌++◌, ◌+◌, ◌≤◌, length};
+ghost use Rattle.texts.specs.Text.{ascii, decimal, digits_max, named, spaced_room, pairs, pair, shown_as, pairs_room, Puts};
 
-// A text as it stands. Public for `transcript_parts` and `transcript`, as all that is public here.
+use arrayvec::ArrayVec;
+
+// A text as it stands. Public for the crates above, as all that is public here.
 // Ruled out: a text that lacks its last byte, and bytes before it that change.
-pub fn put(out: &mut [u8], at: usize, text: &[u8]) -> usize
-    requires { at + length text.now ≤ length out.old }
-    ensures { Puts (length text.now) at text.now out.old out.new result }
+pub fn put<const N: usize>(out: &mut ArrayVec<u8, N>, text: &[u8])
+    requires { length out.old.items + length text.now ≤ N }
+    ensures { Puts (length text.now) text.now out.old.items out.new.items }
 {
-    byte_slices::copy(text, &mut out[at..]);
-    at + text.len()
+    let _ = out.try_extend_from_slice(text);
 }
 
-// A number in decimal.
-fn put_number(out: &mut [u8], at: usize, n: u64) -> usize
-    requires { at + digits_max ≤ length out.old }
-    ensures { Puts digits_max at (decimal n) out.old out.new result }
+// A number in decimal, where there is room for its digits.
+// Ruled out: a number that lacks its last digit, and leading zeros.
+pub fn put_number<const N: usize>(out: &mut ArrayVec<u8, N>, n: u64)
+    requires { length out.old.items + length (decimal n) ≤ N }
+    ensures { Puts (length (decimal n)) (decimal n) out.old.items out.new.items }
 {
     let mut digits = [0; 20];
     let count = io::decimal(n, &mut digits);
-    put(out, at, &digits[..count])
+    put(out, &digits[..count]);
 }
 
 // A number behind a word.
 // Ruled out: the number before the word, and a space between them that the word does not have.
-pub fn put_named(out: &mut [u8], at: usize, word: &[u8], n: u64) -> usize
-    requires { at + (length word.now + digits_max) ≤ length out.old }
-    ensures { Puts (length word.now + digits_max) at
-        (named word.now n) out.old out.new result }
+pub fn put_named<const N: usize>(out: &mut ArrayVec<u8, N>, word: &[u8], n: u64)
+    requires { length out.old.items + (length word.now + digits_max) ≤ N }
+    ensures { Puts (length word.now + digits_max) (named word.now n) out.old.items out.new.items }
 {
-    let end = put(out, at, word);
-    put_number(out, end, n)
+    put(out, word);
+    put_number(out, n);
 }
 
 // A number behind a space.
 // Ruled out: no space, and a space behind the number.
-pub fn put_spaced(out: &mut [u8], at: usize, n: u64) -> usize
-    requires { at + spaced_room ≤ length out.old }
-    ensures { Puts spaced_room at (named (ascii " ") n) out.old out.new result }
+pub fn put_spaced<const N: usize>(out: &mut ArrayVec<u8, N>, n: u64)
+    requires { length out.old.items + spaced_room ≤ N }
+    ensures { Puts spaced_room (named (ascii " ") n) out.old.items out.new.items }
 {
-    put_named(out, at, b" ", n)
+    put_named(out, b" ", n);
 }
 
 // Bytes as pairs of hexadecimal digits, `-` for none.
 // Ruled out: the digits of a byte exchanged, and nothing at all for no bytes.
-pub fn put_bytes(out: &mut [u8], at: usize, shown: &[u8]) -> usize
-    requires { at + (1 + pairs_room shown.now) ≤ length out.old }
-    ensures { Puts (1 + pairs_room shown.now) at
-        (shown_as shown.now) out.old out.new result }
+pub fn put_bytes<const N: usize>(out: &mut ArrayVec<u8, N>, shown: &[u8])
+    requires { length out.old.items + (1 + pairs_room shown.now) ≤ N }
+    ensures { Puts (1 + pairs_room shown.now) (shown_as shown.now) out.old.items out.new.items }
 {
-    if shown.len() == 0 {
-        return put(out, at, b"-");
+    if shown.is_empty() {
+        return put(out, b"-");
     }
-    put_pairs(out, at, shown)
+    for byte in shown {
+        put_pair(out, *byte);
+    }
 }
 
-fn put_pairs(out: &mut [u8], at: usize, shown: &[u8]) -> usize
-    requires { at + pairs_room shown.now ≤ length out.old }
-    ensures { Puts (pairs_room shown.now) at
-        (pairs shown.now) out.old out.new result }
+fn put_pair<const N: usize>(out: &mut ArrayVec<u8, N>, byte: u8)
+    requires { length out.old.items + 2 ≤ N }
+    ensures { out.new.items ≡ out.old.items ++ pair byte }
 {
-    let mut end = at;
-    let mut rest = shown;
-    while 0 < rest.len() {
-        put_pair(out, end, rest[0]);
-        end += 2;
-        rest = &rest[1..];
-    }
-    end
-}
-
-fn put_pair(out: &mut [u8], at: usize, byte: u8)
-    requires { at + 2 ≤ length out.old }
-    ensures { take (at + 2) out.new ≡ take at out.old ++ (hex_digit_ascii (byte / 16) ∷ hex_digit_ascii (byte % 16) ∷ []) }
-{
-    out[at] = digit(byte / 16);
-    out[at + 1] = digit(byte % 16);
-}
-
-// A lowercase hexadecimal digit.
-fn digit(value: u8) -> u8
-    requires { value < 16 }
-    ensures { result ≡ hex_digit_ascii value }
-{
-    if value < 10 {
-        return b'0' + value;
-    }
-    b'a' + (value - 10)
+    let mut digits = [0; 16];
+    let count = io::hex(byte as u64, 2, &mut digits);
+    put(out, &digits[..count]);
 }

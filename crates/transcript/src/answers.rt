@@ -1,11 +1,12 @@
-// The answer to each call as a line of text, put behind the first `at` bytes of a lent buffer. Each answers where it ends, and asks
-// for room, which the caller has seen to.
+// The answer to each call as a line of text, put behind what a vector of fixed room holds. Each asks for room, which the caller has
+// seen to.
 ghost use Rattle.std.specs.Prelude.{◌+◌, ◌≤◌, length};
 ghost use Rattle.texts.specs.Text.{Puts};
 ghost use Rattle.transcript.specs.Lines.{open_text, submit_text, judged_text, receipt_text, receive_text, poll_text, end_text};
 ghost use Rattle.transcript.specs.Lines.{open_room, submit_room, judged_room, receive_room, poll_room, end_room};
 
 use crate::parts::{put_ended, put_item, put_lent, put_word};
+use arrayvec::ArrayVec;
 use host_answers::{OpenAnswer, PollAnswer, Receipt, ReceiveAnswer, SubmitAnswer};
 use ledger::Word;
 use message::Item;
@@ -13,91 +14,99 @@ use texts::{put, put_named};
 use transcript_parts::put_ending;
 
 // Open.
-pub fn put_opened(out: &mut [u8], at: usize, answer: OpenAnswer) -> usize
-    requires { at + open_room ≤ length out.old }
-    ensures { Puts open_room at (open_text answer) out.old out.new result }
+#[tactic(auto, unfolding(crate::specs::Lines::open_text))]
+pub fn put_opened<const N: usize>(out: &mut ArrayVec<u8, N>, answer: OpenAnswer)
+    requires { length out.old.items + open_room ≤ N }
+    ensures { Puts open_room (open_text answer) out.old.items out.new.items }
 {
     match answer {
-        OpenAnswer::Refused(number) => put_named(out, at, b"open refused ", number as u64),
-        OpenAnswer::Opened => put(out, at, b"opened"),
+        OpenAnswer::Refused(number) => put_named(out, b"open refused ", number as u64),
+        OpenAnswer::Opened => put(out, b"opened"),
     }
 }
 
 // Submit.
-pub fn put_submitted(out: &mut [u8], at: usize, answer: SubmitAnswer) -> usize
-    requires { at + submit_room ≤ length out.old }
-    ensures { Puts submit_room at (submit_text answer) out.old out.new result }
+#[tactic(auto, unfolding(crate::specs::Lines::submit_text))]
+pub fn put_submitted<const N: usize>(out: &mut ArrayVec<u8, N>, answer: SubmitAnswer)
+    requires { length out.old.items + submit_room ≤ N }
+    ensures { Puts submit_room (submit_text answer) out.old.items out.new.items }
 {
     match answer {
-        SubmitAnswer::Refused(number) => put_named(out, at, b"submit refused ", number as u64),
-        SubmitAnswer::Submitted(id) => put_named(out, at, b"submitted ", id.0 as u64),
+        SubmitAnswer::Refused(number) => put_named(out, b"submit refused ", number as u64),
+        SubmitAnswer::Submitted(id) => put_named(out, b"submitted ", id.0 as u64),
     }
 }
 
 // Receive, with the reply and the data that are to be shown.
-pub fn put_received(
-    out: &mut [u8],
-    at: usize,
+#[tactic(auto, unfolding(crate::specs::Lines::receive_text))]
+pub fn put_received<const N: usize>(
+    out: &mut ArrayVec<u8, N>,
     answer: ReceiveAnswer,
     reply: &[u8],
     handed: &[u8],
-) -> usize
-    requires { at + receive_room reply.now handed.now ≤ length out.old }
-    ensures { Puts (receive_room reply.now handed.now) at
-        (receive_text answer reply.now handed.now) out.old out.new result }
+)
+    requires { length out.old.items + receive_room reply.now handed.now ≤ N }
+    ensures { Puts (receive_room reply.now handed.now) (receive_text answer reply.now handed.now) out.old.items out.new.items }
 {
     match answer {
-        ReceiveAnswer::Refused(number) => put_named(out, at, b"receive refused ", number as u64),
-        ReceiveAnswer::Received(receipt) => put_receipt(out, at, receipt, reply, handed),
+        ReceiveAnswer::Refused(number) => put_named(out, b"receive refused ", number as u64),
+        ReceiveAnswer::Received(receipt) => put_receipt(out, receipt, reply, handed),
     }
 }
 
-fn put_receipt(out: &mut [u8], at: usize, receipt: Receipt, reply: &[u8], handed: &[u8]) -> usize
-    requires { at + receive_room reply.now handed.now ≤ length out.old }
-    ensures { Puts (receive_room reply.now handed.now) at
-        (receipt_text receipt reply.now handed.now) out.old out.new result }
+#[tactic(auto, unfolding(crate::specs::Lines::receipt_text))]
+fn put_receipt<const N: usize>(
+    out: &mut ArrayVec<u8, N>,
+    receipt: Receipt,
+    reply: &[u8],
+    handed: &[u8],
+)
+    requires { length out.old.items + receive_room reply.now handed.now ≤ N }
+    ensures { Puts (receive_room reply.now handed.now) (receipt_text receipt reply.now handed.now) out.old.items out.new.items }
 {
     let item = receipt.item;
     let word = receipt.word;
     let ending = receipt.ending;
-    let end = put_judged(out, at, item, word);
-    let end = put_named(out, end, b" taken ", receipt.taken as u64);
-    let end = put_lent(out, end, b" reply ", receipt.replied, reply);
-    let end = put_lent(out, end, b" data ", handed.len(), handed);
-    put_ended(out, end, ending)
+    put_judged(out, item, word);
+    put_named(out, b" taken ", receipt.taken as u64);
+    put_lent(out, b" reply ", receipt.replied, reply);
+    put_lent(out, b" data ", handed.len(), handed);
+    put_ended(out, ending);
 }
 
-fn put_judged(out: &mut [u8], at: usize, item: Option<Item>, word: Word) -> usize
-    requires { at + judged_room ≤ length out.old }
-    ensures { Puts judged_room at (judged_text item word) out.old out.new result }
+#[tactic(auto, unfolding(crate::specs::Lines::judged_text))]
+fn put_judged<const N: usize>(out: &mut ArrayVec<u8, N>, item: Option<Item>, word: Word)
+    requires { length out.old.items + judged_room ≤ N }
+    ensures { Puts judged_room (judged_text item word) out.old.items out.new.items }
 {
-    let end = put(out, at, b"received ");
-    let end = put_item(out, end, item);
-    put_word(out, end, word)
+    put(out, b"received ");
+    put_item(out, item);
+    put_word(out, word);
 }
 
 // Poll, with the frame that is to be shown.
-pub fn put_polled(out: &mut [u8], at: usize, answer: PollAnswer, frame: &[u8]) -> usize
-    requires { at + poll_room frame.now ≤ length out.old }
-    ensures { Puts (poll_room frame.now) at
-        (poll_text answer frame.now) out.old out.new result }
+#[tactic(auto, unfolding(crate::specs::Lines::poll_text))]
+pub fn put_polled<const N: usize>(out: &mut ArrayVec<u8, N>, answer: PollAnswer, frame: &[u8])
+    requires { length out.old.items + poll_room frame.now ≤ N }
+    ensures { Puts (poll_room frame.now) (poll_text answer frame.now) out.old.items out.new.items }
 {
     match answer {
-        PollAnswer::Refused(number) => put_named(out, at, b"poll refused ", number as u64),
-        PollAnswer::Sent(len) => put_lent(out, at, b"sent ", len, frame),
-        PollAnswer::Ended(ending) => put_ending(out, at, ending),
-        PollAnswer::Quiet(ms) => put_named(out, at, b"quiet ", ms),
-        PollAnswer::NoDeadline => put(out, at, b"no-deadline"),
+        PollAnswer::Refused(number) => put_named(out, b"poll refused ", number as u64),
+        PollAnswer::Sent(len) => put_lent(out, b"sent ", len, frame),
+        PollAnswer::Ended(ending) => put_ending(out, ending),
+        PollAnswer::Quiet(ms) => put_named(out, b"quiet ", ms),
+        PollAnswer::NoDeadline => put(out, b"no-deadline"),
     }
 }
 
 // The end of a line: whether the call touched bytes that it should not have.
-pub fn put_end(out: &mut [u8], at: usize, touched: bool) -> usize
-    requires { at + end_room ≤ length out.old }
-    ensures { Puts end_room at (end_text touched) out.old out.new result }
+#[tactic(auto, unfolding(crate::specs::Lines::end_text))]
+pub fn put_end<const N: usize>(out: &mut ArrayVec<u8, N>, touched: bool)
+    requires { length out.old.items + end_room ≤ N }
+    ensures { Puts end_room (end_text touched) out.old.items out.new.items }
 {
     if touched {
-        return put(out, at, b" touched\n");
+        return put(out, b" touched\n");
     }
-    put(out, at, b"\n")
+    put(out, b"\n");
 }

@@ -1,9 +1,10 @@
-// The parts of an answer as text, each put behind the first `at` bytes of a lent buffer. Each answers where it ends.
+// The parts of an answer as text, each put behind what a vector of fixed room holds.
 ghost use Rattle.std.specs.Prelude.{◌+◌, ◌≤◌, length};
 ghost use Rattle.texts.specs.Text.{Puts};
 ghost use Rattle.transcript.specs.Lines.{one_text, item_text, command_text, word_text, lent_text, ended_text};
 ghost use Rattle.transcript.specs.Lines.{item_room, command_room, word_room, lent_room, ended_room};
 
+use arrayvec::ArrayVec;
 use host_answers::Ended;
 use ledger::{Command, Word};
 use message::{Item, Seq};
@@ -11,88 +12,98 @@ use texts::{put, put_bytes, put_named, put_spaced};
 use transcript_parts::{put_ending, put_fields};
 
 // The item, or `more`.
-pub(crate) fn put_item(out: &mut [u8], at: usize, answer: Option<Item>) -> usize
-    requires { at + item_room ≤ length out.old }
-    ensures { Puts item_room at (item_text answer) out.old out.new result }
+#[tactic(auto, unfolding(crate::specs::Lines::item_text))]
+pub(crate) fn put_item<const N: usize>(out: &mut ArrayVec<u8, N>, answer: Option<Item>)
+    requires { length out.old.items + item_room ≤ N }
+    ensures { Puts item_room (item_text answer) out.old.items out.new.items }
 {
     match answer {
-        None => put(out, at, b"more"),
-        Some(item) => put_one(out, at, item),
+        None => put(out, b"more"),
+        Some(item) => put_one(out, item),
     }
 }
 
-fn put_one(out: &mut [u8], at: usize, item: Item) -> usize
-    requires { at + item_room ≤ length out.old }
-    ensures { Puts item_room at (one_text item) out.old out.new result }
+#[tactic(auto, unfolding(crate::specs::Lines::one_text))]
+fn put_one<const N: usize>(out: &mut ArrayVec<u8, N>, item: Item)
+    requires { length out.old.items + item_room ≤ N }
+    ensures { Puts item_room (one_text item) out.old.items out.new.items }
 {
     match item {
-        Item::DamagedHeader => put(out, at, b"damaged-header"),
-        Item::Forbidden => put(out, at, b"forbidden"),
-        Item::DamagedPayload => put(out, at, b"damaged-payload"),
-        Item::Message { kind, seq, len } => put_message(out, at, kind, seq, len),
+        Item::DamagedHeader => put(out, b"damaged-header"),
+        Item::Forbidden => put(out, b"forbidden"),
+        Item::DamagedPayload => put(out, b"damaged-payload"),
+        Item::Message { kind, seq, len } => put_message(out, kind, seq, len),
     }
 }
 
-fn put_message(out: &mut [u8], at: usize, kind: u8, seq: Seq, len: usize) -> usize
-    requires { at + item_room ≤ length out.old }
-    ensures { Puts item_room at (one_text (Item.Message kind seq len)) out.old out.new result }
+#[tactic(auto, unfolding(crate::specs::Lines::one_text))]
+fn put_message<const N: usize>(out: &mut ArrayVec<u8, N>, kind: u8, seq: Seq, len: usize)
+    requires { length out.old.items + item_room ≤ N }
+    ensures { Puts item_room (one_text (Item.Message kind seq len)) out.old.items out.new.items }
 {
-    let end = put_named(out, at, b"message ", kind as u64);
-    let end = put_spaced(out, end, seq.0 as u64);
-    put_spaced(out, end, len as u64)
+    put_named(out, b"message ", kind as u64);
+    put_spaced(out, seq.0 as u64);
+    put_spaced(out, len as u64);
 }
 
 // The word that a message earned.
-pub(crate) fn put_word(out: &mut [u8], at: usize, word: Word) -> usize
-    requires { at + word_room ≤ length out.old }
-    ensures { Puts word_room at (word_text word) out.old out.new result }
+#[tactic(auto, unfolding(crate::specs::Lines::word_text))]
+pub(crate) fn put_word<const N: usize>(out: &mut ArrayVec<u8, N>, word: Word)
+    requires { length out.old.items + word_room ≤ N }
+    ensures { Puts word_room (word_text word) out.old.items out.new.items }
 {
     match word {
-        Word::Nothing => put(out, at, b" none"),
-        Word::Stray => put(out, at, b" stray"),
-        Word::Repeat => put(out, at, b" repeat"),
-        Word::NotCommand => put(out, at, b" not-a-command"),
-        Word::Event(it) => put_command(out, at, b" event", it),
-        Word::Response(it) => put_command(out, at, b" response", it),
-        Word::Unmatched(it) => put_command(out, at, b" unmatched", it),
+        Word::Nothing => put(out, b" none"),
+        Word::Stray => put(out, b" stray"),
+        Word::Repeat => put(out, b" repeat"),
+        Word::NotCommand => put(out, b" not-a-command"),
+        Word::Event(it) => put_command(out, b" event", it),
+        Word::Response(it) => put_command(out, b" response", it),
+        Word::Unmatched(it) => put_command(out, b" unmatched", it),
     }
 }
 
 // A command behind its word: TC, TID, SID, IID, CID, RQID and the length of its data.
-fn put_command(out: &mut [u8], at: usize, word: &[u8], it: Command) -> usize
-    requires { at + command_room word.now ≤ length out.old }
-    ensures { Puts (command_room word.now) at
-        (command_text word.now it) out.old out.new result }
+#[tactic(auto, unfolding(crate::specs::Lines::command_text))]
+fn put_command<const N: usize>(out: &mut ArrayVec<u8, N>, word: &[u8], it: Command)
+    requires { length out.old.items + command_room word.now ≤ N }
+    ensures { Puts (command_room word.now) (command_text word.now it) out.old.items out.new.items }
 {
     let fields = it.fields;
     let id = it.id;
-    let end = put(out, at, word);
-    let end = put_fields(out, end, fields);
-    let end = put_spaced(out, end, id.0 as u64);
-    put_spaced(out, end, it.len as u64)
+    put(out, word);
+    put_fields(out, fields);
+    put_spaced(out, id.0 as u64);
+    put_spaced(out, it.len as u64);
 }
 
 // A length and bytes behind a name.
-pub(crate) fn put_lent(out: &mut [u8], at: usize, name: &[u8], len: usize, shown: &[u8]) -> usize
-    requires { at + lent_room name.now shown.now ≤ length out.old }
-    ensures { Puts (lent_room name.now shown.now) at
-        (lent_text name.now len shown.now) out.old out.new result }
+#[tactic(auto, unfolding(crate::specs::Lines::lent_text))]
+pub(crate) fn put_lent<const N: usize>(
+    out: &mut ArrayVec<u8, N>,
+    name: &[u8],
+    len: usize,
+    shown: &[u8],
+)
+    requires { length out.old.items + lent_room name.now shown.now ≤ N }
+    ensures { Puts (lent_room name.now shown.now) (lent_text name.now len shown.now) out.old.items out.new.items }
 {
-    let end = put_named(out, at, name, len as u64);
-    let end = put(out, end, b" ");
-    put_bytes(out, end, shown)
+    put_named(out, name, len as u64);
+    put(out, b" ");
+    put_bytes(out, shown);
 }
 
 // The ending that a receive reports, if any.
-pub(crate) fn put_ended(out: &mut [u8], at: usize, ended: Ended) -> usize
-    requires { at + ended_room ≤ length out.old }
-    ensures { Puts ended_room at (ended_text ended) out.old out.new result }
+#[tactic(auto, unfolding(crate::specs::Lines::ended_text))]
+pub(crate) fn put_ended<const N: usize>(out: &mut ArrayVec<u8, N>, ended: Ended)
+    requires { length out.old.items + ended_room ≤ N }
+    ensures { Puts ended_room (ended_text ended) out.old.items out.new.items }
 {
     match ended {
-        Ended::Nobody => put(out, at, b" no-ending"),
+        Ended::Nobody => put(out, b" no-ending"),
         Ended::One(ending) => {
-            let end = put(out, at, b" ");
-            put_ending(out, end, ending)
+            put(out, b" ");
+            put_ending(out, ending);
         }
     }
 }

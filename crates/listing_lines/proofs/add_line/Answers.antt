@@ -1,42 +1,27 @@
--- `listing_lines::add_line` meets its contract: by whether there is room, what `put_line` puts behind those that wait or alone; what
--- waited is written where there is none.
-use mathlib.Core.Path.{refl, sym, ◌∙◌}
+-- `listing_lines::add_line` meets its contract: by whether there is room, the line joins those that wait or waits alone; what waited is
+-- written where there is none.
+use mathlib.Core.Path.{sym, ap, subst, ◌∙◌}
 use native.Mathlib.Omega.{arith}
-use lib.ListN.{length}
+use Rattle.std.specs.Io.KnownBytes.{Appends}
 use Rattle.std.proofs.KnownBytes.{Appends-nil}
-use Rattle.listing_lines.specs.Waiting.{writes, waits}
-use Rattle.listing_lines.proofs.Joining.{has_room_law, no_room_law}
-use Rattle.listing_lines.proofs.Written.{not_failed}
+use Rattle.message.specs.Promises.{item_of}
+use Rattle.listing_lines.proofs.Joining.{writes_none, writes_all, waits_too, waits_alone}
+use Rattle.listing_lines.proofs.add_line.Goals.{then-remaining_capacity-lt-LINE_ROOM+in_ok-written, else-remaining_capacity-lt-LINE_ROOM}
 use Rattle.listing_lines.proofs.add_line.Goals as goal
 
-pub returns-then-is_err-clause-adds : goal.returns-then-is_err-clause-adds
-returns-then-is_err-clause-adds _ c =
-    let a = c.args in
-    record { within = omega arith; joins = (no_room_law (length a.out.now) a.used a.out.now (omega arith) (omega arith), refl) }
-
-pub returns-then-out-used-lt-LINE_ROOM-clause-adds : goal.returns-then-out-used-lt-LINE_ROOM-clause-adds
-unfolding waits
-returns-then-out-used-lt-LINE_ROOM-clause-adds _ c =
-    let a = c.args in
-    let p = c.put_line-used.ensures in
-    record { within = p.0; joins = rw (no_room_law (length a.out.now) a.used a.out.now (omega arith) (omega arith)) p.1 }
-
-pub returns-then-out-used-lt-LINE_ROOM-clause-written : goal.returns-then-out-used-lt-LINE_ROOM-clause-written
-unfolding writes
-returns-then-out-used-lt-LINE_ROOM-clause-written _ c _ =
-    let a = c.args in
-    rw (no_room_law (length a.out.now) a.used a.out.now (omega arith) (omega arith))
-    (not_failed c.write_all.result (sym c.is_err.ensures.value ∙ c.if-is_err.false) c.write_all.ensures.bytes)
-
-pub returns-clause-adds : goal.returns-clause-adds
-unfolding waits
-returns-clause-adds _ c =
-    let a = c.args in
-    let p = c.put_line-used-2.ensures in
-    record { within = p.0; joins = rw (has_room_law (length a.out.now) a.used a.out.now (omega arith) (omega arith)) p.1 }
+pub returns-clause-joins : goal.returns-clause-joins
+returns-clause-joins g c =
+    let items = c.args.out.now.items in
+    let item = item_of c.args.item in
+    elim c.if-remaining_capacity-lt-LINE_ROOM.branch [
+      | then-remaining_capacity-lt-LINE_ROOM+in_ok-written w ↦ c.put_line.ensures.1 ∙ rw (w.out-is, w.clear.ensures, waits_alone g.row.N items item (omega arith))
+      | else-remaining_capacity-lt-LINE_ROOM w ↦ c.put_line.ensures.1 ∙ rw (w.out-is, waits_too g.row.N items item (omega arith))
+    ]
 
 pub returns-clause-written : goal.returns-clause-written
-unfolding writes
-returns-clause-written g c _ =
-    let a = c.args in
-    rw (has_room_law (length a.out.now) a.used a.out.now (omega arith) (omega arith)) (Appends-nil (g.W.Write.contents a.output.now))
+returns-clause-written g c =
+    let items = c.args.out.now.items in
+    elim c.if-remaining_capacity-lt-LINE_ROOM.branch [
+      | then-remaining_capacity-lt-LINE_ROOM+in_ok-written w ↦ rw (w.output-is, writes_all g.row.N items (omega arith)) (rw w.deref.ensures.0 at w.in_ok-written.ensures.bytes)
+      | else-remaining_capacity-lt-LINE_ROOM w ↦ rw (w.output-is, writes_none g.row.N items (omega arith)) (Appends-nil (g.W.Write.contents c.args.output.now))
+    ]

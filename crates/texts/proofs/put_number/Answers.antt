@@ -1,18 +1,18 @@
--- `texts::put_number` meets its contract: the digits that the kit writes, put.
+-- `texts::put_number` meets its contract: the digits that the kit writes are put.
 use native.Mathlib.Omega.{arith}
-use lib.ListN.{length-take}
-use Rattle.texts.proofs.Putting.{few_digits, number_put}
+use mathlib.Core.Path.{ap, ◌∙◌}
+use lib.ListN.{length}
+use Rattle.texts.proofs.Putting.{digits_of, puts}
 use Rattle.texts.proofs.put_number.Goals as goal
 
 pub put-requires : goal.put-requires
-put-requires c =
-    let args = c.args in
-    let decimal = c.decimal-count in
-    simp length-take (omega (arith, few_digits decimal.result args.n decimal.ensures.len (omega arith)))
+put-requires g c =
+    let d = c.decimal-count.ensures in
+    let same = d.digits ∙ digits_of c.decimal-count.result c.args.n d.len (omega arith) in
+    let fits = c.well_formed in
+    (omega arith, omega (arith, ap length same))
 
 pub returns : goal.returns
-returns c =
-    let n = c.args.n in
-    let decimal = c.decimal-count in
-    let few = few_digits decimal.result n decimal.ensures.len (omega arith) in
-    number_put decimal.result n _ few decimal.ensures.len decimal.ensures.digits c.put.ensures
+returns g c =
+    let d = c.decimal-count.ensures in
+    puts (d.digits ∙ digits_of c.decimal-count.result c.args.n d.len (omega arith)) c.put.ensures

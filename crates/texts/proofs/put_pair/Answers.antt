@@ -1,15 +1,17 @@
--- `texts::put_pair` meets its contract: two bytes are set.
+-- `texts::put_pair` meets its contract: the two digits that the kit writes are put.
 use native.Mathlib.Omega.{arith}
-use lib.ListN.{length-set}
-use Rattle.texts.proofs.Putting.{pair_set}
+use mathlib.Core.Path.{ap, ◌∙◌}
+use lib.ListN.{length}
+use Rattle.texts.proofs.Putting.{pair_of}
 use Rattle.texts.proofs.put_pair.Goals as goal
 
-pub bounds-out-at-2 : goal.bounds-out-at-2
-bounds-out-at-2 c = simp length-set (omega arith)
+pub put-requires : goal.put-requires
+put-requires g c =
+    let d = c.hex-count.ensures in
+    let fits = c.well_formed in
+    (omega arith, omega (arith, ap length (pair_of c.hex-count.result c.args.byte c.hex-count.new.out d.len (omega arith) d.digits)))
 
 pub returns : goal.returns
-returns c =
-    let args = c.args in
-    let digit = c.digit in
-    let digit2 = c.digit-2 in
-    rw (digit.ensures, digit2.ensures) (pair_set args.out.now args.at _ _ (omega arith))
+returns g c =
+    let d = c.hex-count.ensures in
+    rw (pair_of c.hex-count.result c.args.byte c.hex-count.new.out d.len (omega arith) d.digits) at c.put.ensures.reads
