@@ -32,13 +32,10 @@ pub(crate) fn put_receive(
     ensures { Puts line_room at
         (receive_line answer reply.now buffer.now) out.old out.new result }
 {
-    let replied = within(reply_length(answer), reply);
-    let handed = within(data_length(answer), buffer);
-    let end = put_received(out, at, answer, &reply[..replied], &buffer[..handed]);
-    if is_touched(&reply[replied..]) {
-        return put_end(out, end, true);
-    }
-    put_end(out, end, is_touched(&buffer[handed..]))
+    let (shown, behind) = parted(reply, reply_length(answer));
+    let (handed, past) = parted(buffer, data_length(answer));
+    let end = put_received(out, at, answer, shown, handed);
+    put_end(out, end, is_touched(behind) || is_touched(past))
 }
 
 // The line of a poll, from its answer and the output as it left it.
@@ -46,33 +43,22 @@ pub(crate) fn put_poll(out: &mut [u8], at: usize, answer: PollAnswer, output: &[
     requires { (at + line_room ≤ length out.old) × (length output.now ≤ lent_max) }
     ensures { Puts line_room at (poll_line answer output.now) out.old out.new result }
 {
-    let sent = within(frame_length(answer), output);
-    let end = put_polled(out, at, answer, &output[..sent]);
-    put_end(out, end, is_touched(&output[sent..]))
+    let (shown, behind) = parted(output, frame_length(answer));
+    let end = put_polled(out, at, answer, shown);
+    put_end(out, end, is_touched(behind))
 }
 
-// A length that a call answered, or the buffer's where that is less.
-fn within(len: usize, buffer: &[u8]) -> usize
-    ensures { (result ≤ length buffer.now)
-        × (take result buffer.now ≡ take len buffer.now)
-        × (drop result buffer.now ≡ drop len buffer.now) }
+// The front of a buffer, of a length that a call answered or all of it, and what is behind.
+fn parted(buffer: &[u8], len: usize) -> (&[u8], &[u8])
+    ensures front { result.0.now ≡ take len buffer.now }
+    ensures behind { result.1.now ≡ drop len buffer.now }
 {
-    if buffer.len() < len {
-        return buffer.len();
-    }
-    len
+    buffer.split_at(len.min(buffer.len()))
 }
 
 // Whether any of these bytes is not what it was filled with.
 fn is_touched(bytes: &[u8]) -> bool
     ensures { result ≡ touched bytes.now }
 {
-    let mut rest = bytes;
-    while 0 < rest.len() {
-        if rest[0] != FILL {
-            return true;
-        }
-        rest = &rest[1..];
-    }
-    false
+    bytes.iter().any(|byte| *byte != FILL)
 }

@@ -1,64 +1,23 @@
 -- `runner::lent::put_receive` meets its contract: what is shown, and the end of the line behind it.
-use mathlib.Core.Path.{sym, ◌∙◌}
-use native.Mathlib.Omega.{arith}
-use lib.Seq.{length-take-le}
-use Rattle.runner.proofs.Shown.{part_short, receive_line_law}
+use mathlib.Core.Bool.{◌||◌}
+use mathlib.Core.Path.{◌≡◌, refl, sym, ◌∙◌}
+use Rattle.runner.specs.Lent.{touched}
+use Rattle.runner.proofs.Shown.{receive_line_law}
 use Rattle.runner.proofs.lent.put_receive.Goals as goal
-
-pub slice_bounds-put_received-end : goal.slice_bounds-put_received-end
-slice_bounds-put_received-end c = sym (length-take-le _ _ c.within-replied.ensures.0)
-
-pub slice_bounds-put_received-end-2 : goal.slice_bounds-put_received-end-2
-slice_bounds-put_received-end-2 c = sym (length-take-le _ _ c.within-handed.ensures.0)
-
-pub put_received-end-requires : goal.put_received-end-requires
-put_received-end-requires c =
-    let args = c.args in
-    let pre = c.requires in
-    let short = part_short c.within-replied.result args.reply.now pre.1 in
-    let brief = part_short c.within-handed.result args.buffer.now pre.2 in
-    omega arith
-
-pub put_end-requires : goal.put_end-requires
-put_end-requires c =
-    let args = c.args in
-    let pre = c.requires in
-    let short = part_short c.within-replied.result args.reply.now pre.1 in
-    let brief = part_short c.within-handed.result args.buffer.now pre.2 in
-    omega (arith, c.put_received-end.ensures.within)
-
-pub returns-then-is_touched : goal.returns-then-is_touched
-returns-then-is_touched c =
-    let args = c.args in
-    let pre = c.requires in
-    let reply = c.reply_length in
-    let within = c.within-replied in
-    let handed = c.data_length in
-    let within2 = c.within-handed in
-    let put-received = c.put_received-end in
-    let test = sym c.is_touched.ensures ∙ c.if-is_touched.true in
-    receive_line_law args.answer args.reply.now args.buffer.now reply.result handed.result within.result
-    within2.result _ pre.1 pre.2 reply.ensures handed.ensures within.ensures.1 within.ensures.2
-    within2.ensures.1 within2.ensures.2 (rw test) put-received.ensures c.put_end.ensures
-
-pub put_end-requires-2 : goal.put_end-requires-2
-put_end-requires-2 c =
-    let args = c.args in
-    let pre = c.requires in
-    let short = part_short c.within-replied.result args.reply.now pre.1 in
-    let brief = part_short c.within-handed.result args.buffer.now pre.2 in
-    omega (arith, c.put_received-end.ensures.within)
+use Rattle.runner.proofs.lent.put_receive.Goals.{then-is_touched, else-is_touched}
 
 pub returns : goal.returns
 returns c =
     let args = c.args in
-    let pre = c.requires in
-    let reply = c.reply_length in
-    let within = c.within-replied in
-    let handed = c.data_length in
-    let within2 = c.within-handed in
+    let parted = c.parted in
+    let parted2 = c.parted-2 in
     let put-received = c.put_received-end in
-    let test = sym c.is_touched.ensures ∙ c.if-is_touched.false in
-    receive_line_law args.answer args.reply.now args.buffer.now reply.result handed.result within.result
-    within2.result _ pre.1 pre.2 reply.ensures handed.ensures within.ensures.1 within.ensures.2
-    within2.ensures.1 within2.ensures.2 (rw test c.is_touched-2.ensures) put-received.ensures c.put_end-2.ensures
+    let first = sym c.is_touched.ensures in
+    let test : c.if-is_touched.put_end ≡ (touched parted.result.1.now || touched parted2.result.1.now)
+    = elim c.if-is_touched.branch [
+      | then-is_touched w ↦ w.put_end-is ∙ (rw (first, w.if-is_touched.true) refl)
+      | else-is_touched w ↦ w.put_end-is ∙ (rw (first, w.if-is_touched.false) w.is_touched-else-is_touched.ensures)
+    ] in
+    receive_line_law args.answer args.reply.now args.buffer.now _ _ _ _ _ _ _ c.requires.1 c.requires.2
+    c.reply_length.ensures c.data_length.ensures parted.ensures.front parted.ensures.behind parted2.ensures.front
+    parted2.ensures.behind test put-received.ensures c.put_end.ensures
