@@ -1,5 +1,6 @@
 -- The lines of receive and poll, from the answer and the lent buffers as the call left them (docs/SESSION-SCRIPT.md).
-use Rattle.std.specs.Prelude.{ℕ, Bool, true, false, ◌||◌, cond as if, List, [], ◌∷◌, ◌++◌, eqb, take, drop}
+use Rattle.std.specs.Prelude.{ℕ, Bool, not, ◌||◌, List, ◌++◌, ◌==◌, take, drop}
+use Rattle.std.specs.List.{list_any}
 use Rattle.host_answers.specs.declared.ReceiveAnswer.{ReceiveAnswer}
 use Rattle.host_answers.specs.declared.PollAnswer.{PollAnswer}
 use Rattle.lent_lengths.specs.Lengths.{reply_length, data_length, frame_length}
@@ -10,9 +11,8 @@ abbrev pub fill : ℕ
 fill = 0xEE
 
 -- whether any of these bytes is another
-unfoldable pub touched : List ℕ → Bool
-touched [] = false
-touched (b ∷ s) = if (eqb b fill) (touched s) true
+abbrev pub touched : List ℕ → Bool
+touched s = list_any (λ b. not (b == fill)) s
 
 -- the line of a receive: what is said to be there is shown, and nothing behind it may be touched
 unfoldable pub receive_line : ReceiveAnswer → List ℕ → List ℕ → List ℕ

@@ -1,31 +1,26 @@
-// What is wrong with a script, said on standard error.
+// Why a script was not run to its end, as standard error says it.
 use script_bytes::faults::Fault;
+use std::error::Error;
+use std::fmt;
 
-// Says on standard error which line is wrong, and what is wrong with it.
-pub(crate) fn complain(rt: &impl Eprint, number: u64, fault: Fault) {
-    let _ = eprint!(rt; "session: line {number}: ");
-    explain(rt, fault);
+#[derive(Clone, Copy, Debug)]
+pub(crate) enum Stop {
+    // what is wrong with the line of this number
+    Wrong { number: u64, fault: Fault },
+    Endless,
+    ReadFailed,
+    WriteFailed,
 }
 
-fn explain(rt: &impl Eprint, fault: Fault) {
-    match fault {
-        Fault::Nothing => say(rt, "nothing is wrong\n"),
-        Fault::UnknownCall => say(rt, "unknown call\n"),
-        Fault::NotOpened => say(rt, "the first call must be open\n"),
-        Fault::OpenedBefore => say(rt, "a second open\n"),
-        Fault::MissingField => say(rt, "missing field\n"),
-        Fault::NotNumber => say(rt, "expected a number\n"),
-        Fault::LeadingZero => say(rt, "a number begins with 0\n"),
-        Fault::TooLarge => say(rt, "number too large\n"),
-        Fault::NotWanted => say(rt, "expected wanted or unwanted\n"),
-        Fault::NotPairs => say(rt, "expected lowercase hexadecimal pairs\n"),
-        Fault::TooManyBytes => say(rt, "bytes over 4096\n"),
-        Fault::TextAfter => say(rt, "text after the last field\n"),
-        Fault::LongLine => say(rt, "line too long\n"),
+impl fmt::Display for Stop {
+    fn fmt<W: fmt::Write>(&self, f: &mut fmt::Formatter<W>) -> fmt::Result {
+        match self {
+            Stop::Wrong { number, fault } => write!(f, "line {number}: {fault}"),
+            Stop::Endless => write!(f, "standard input does not end"),
+            Stop::ReadFailed => write!(f, "reading standard input failed"),
+            Stop::WriteFailed => write!(f, "writing standard output failed"),
+        }
     }
 }
 
-// Says a text on standard error.
-pub(crate) fn say(rt: &impl Eprint, text: &str) {
-    let _ = rt.eprint(text);
-}
+impl Error for Stop {}

@@ -5,7 +5,6 @@ ghost use Rattle.script.specs.Limits.{lent_max};
 ghost use Rattle.runner.specs.Room.{line_room};
 ghost use Rattle.runner.specs.Lent.{touched, receive_line, poll_line};
 
-use arrayvec::ArrayVec;
 use host_answers::{PollAnswer, ReceiveAnswer};
 use lent_lengths::{data_length, frame_length, reply_length};
 use script::calls::LENT_MAX;
@@ -22,54 +21,44 @@ pub(crate) fn filled() -> [u8; LENT_MAX]
 }
 
 // The line of a receive, from its answer and the buffers as it left them.
-pub(crate) fn put_receive<const N: usize>(
-    out: &mut ArrayVec<u8, N>,
+pub(crate) fn put_receive(
+    out: &mut [u8],
+    at: usize,
     answer: ReceiveAnswer,
     reply: &[u8],
     buffer: &[u8],
-)
-    requires { (length out.old.items + line_room ≤ N) × (length reply.now ≤ lent_max) × (length buffer.now ≤ lent_max) }
-    ensures { Puts line_room (receive_line answer reply.now buffer.now) out.old.items out.new.items }
+) -> usize
+    requires { (at + line_room ≤ length out.old) × (length reply.now ≤ lent_max) × (length buffer.now ≤ lent_max) }
+    ensures { Puts line_room at
+        (receive_line answer reply.now buffer.now) out.old out.new result }
 {
-    let replied = within(reply_length(answer), reply);
-    let handed = within(data_length(answer), buffer);
-    put_received(out, answer, &reply[..replied], &buffer[..handed]);
-    let touched = is_touched(&reply[replied..]) || is_touched(&buffer[handed..]);
-    put_end(out, touched);
+    let (shown, behind) = parted(reply, reply_length(answer));
+    let (handed, past) = parted(buffer, data_length(answer));
+    let end = put_received(out, at, answer, shown, handed);
+    put_end(out, end, is_touched(behind) || is_touched(past))
 }
 
 // The line of a poll, from its answer and the output as it left it.
-pub(crate) fn put_poll<const N: usize>(out: &mut ArrayVec<u8, N>, answer: PollAnswer, output: &[u8])
-    requires { (length out.old.items + line_room ≤ N) × (length output.now ≤ lent_max) }
-    ensures { Puts line_room (poll_line answer output.now) out.old.items out.new.items }
+pub(crate) fn put_poll(out: &mut [u8], at: usize, answer: PollAnswer, output: &[u8]) -> usize
+    requires { (at + line_room ≤ length out.old) × (length output.now ≤ lent_max) }
+    ensures { Puts line_room at (poll_line answer output.now) out.old out.new result }
 {
-    let sent = within(frame_length(answer), output);
-    put_polled(out, answer, &output[..sent]);
-    put_end(out, is_touched(&output[sent..]));
+    let (shown, behind) = parted(output, frame_length(answer));
+    let end = put_polled(out, at, answer, shown);
+    put_end(out, end, is_touched(behind))
 }
 
-// A length that a call answered, or the buffer's where that is less.
-fn within(len: usize, buffer: &[u8]) -> usize
-    ensures { (result ≤ length buffer.now)
-        × (take result buffer.now ≡ take len buffer.now)
-        × (drop result buffer.now ≡ drop len buffer.now) }
+// The front of a buffer, of a length that a call answered or all of it, and what is behind.
+fn parted(buffer: &[u8], len: usize) -> (&[u8], &[u8])
+    ensures front { result.0.now ≡ take len buffer.now }
+    ensures behind { result.1.now ≡ drop len buffer.now }
 {
-    if buffer.len() < len {
-        return buffer.len();
-    }
-    len
+    buffer.split_at(len.min(buffer.len()))
 }
 
 // Whether any of these bytes is not what it was filled with.
 fn is_touched(bytes: &[u8]) -> bool
     ensures { result ≡ touched bytes.now }
 {
-    let mut rest = bytes;
-    while 0 < rest.len() {
-        if rest[0] != FILL {
-            return true;
-        }
-        rest = &rest[1..];
-    }
-    false
+    bytes.iter().any(|byte| *byte != FILL)
 }

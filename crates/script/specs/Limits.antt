@@ -1,7 +1,7 @@
 -- The limits of what a call names (docs/SESSION-SCRIPT.md).
 use Rattle.std.specs.Prelude.{ℕ, ◌≤◌}
 use Rattle.script.specs.declared.calls.Call.{Call}
-use Rattle.script.specs.declared.calls.Call.TheVariants.{Pass, Open, Submit, Receive, Poll, Faulty}
+use Rattle.script.specs.declared.calls.Call.TheVariants.{Open, Submit, Receive, Poll}
 
 -- the most bytes of a lent buffer
 abbrev pub lent_max : ℕ
@@ -9,9 +9,7 @@ lent_max = 4096
 
 -- the buffers of a call are within that limit, and the bytes that it names are among n
 abbrev pub Within : ℕ → Call → Type 0
-Within n Pass = 0 ≤ n
 Within n (Open reserved) = 0 ≤ n
 Within n (Submit fields wanted clock len) = len ≤ n
 Within n (Receive clock reply buffer len) = (reply ≤ lent_max) × (buffer ≤ lent_max) × (len ≤ n)
 Within n (Poll clock output) = output ≤ lent_max
-Within n (Faulty fault) = 0 ≤ n

@@ -1,99 +1,82 @@
 // The fields of a line, one space between them.
-ghost use Rattle.std.specs.Prelude.{◌≡◌, ◌≤◌, length};
+ghost use Rattle.std.specs.Prelude.{◌≤◌, length, IfOk};
+ghost use Rattle.script.specs.Limits.{lent_max};
 
+use crate::calls::LENT_MAX;
+use crate::numbers::value_of;
+use script_bytes::decode;
 use script_bytes::faults::Fault;
 
-// How far a line was read: behind the last field, and what was wrong first.
+// What is left of a line behind a field: nothing, or a space and the fields that follow.
 #[derive(Drop)]
-pub(crate) struct Cursor {
-    pub(crate) at: usize,
-    pub(crate) fault: Fault,
+pub(crate) struct Reader<'a> {
+    rest: &'a [u8],
 }
 
-// A field: its bytes are those from `from` up to `to`. Where something was wrong there is none.
-#[derive(Drop)]
-pub(crate) struct Field {
-    pub(crate) from: usize,
-    pub(crate) to: usize,
-    pub(crate) fault: Fault,
+// The first field of a line, and a reader of the others.
+pub(crate) fn first(line: &[u8]) -> (&[u8], Reader<'_>) {
+    let (field, rest) = cut(line);
+    (field, Reader { rest })
 }
 
-// Where the first field of a line ends.
-pub(crate) fn first_end(line: &[u8]) -> usize
-    ensures { result ≤ length line.now }
-{
-    byte_slices::find(line, 0, line.len(), b' ')
+// The bytes up to the first space, and those from there on.
+fn cut(text: &[u8]) -> (&[u8], &[u8]) {
+    let end = text.iter().position(|byte| *byte == b' ');
+    text.split_at(end.unwrap_or(text.len()))
 }
 
-// The field behind a cursor.
-pub(crate) fn next_field(line: &[u8], cursor: Cursor) -> Field
-    ensures { (result.from ≤ result.to) × (result.to ≤ length line.now) }
-{
-    let fault = cursor.fault;
-    let Fault::Nothing = fault else {
-        return no_field(fault);
-    };
-    let at = cursor.at;
-    if line.len() <= at {
-        return no_field(Fault::MissingField);
+impl<'a> Reader<'a> {
+    fn next(&mut self) -> Result<&'a [u8], Fault> {
+        let Some((_, text)) = self.rest.split_first() else {
+            return Err(Fault::MissingField);
+        };
+        let (field, rest) = cut(text);
+        self.rest = rest;
+        Ok(field)
     }
-    let from = at + 1;
-    let to = byte_slices::find(line, from, line.len(), b' ');
-    Field {
-        from,
-        to,
-        fault: Fault::Nothing,
-    }
-}
 
-fn no_field(fault: Fault) -> Field
-    ensures { (result.from ≡ 0) × (result.to ≡ 0) }
-{
-    Field {
-        from: 0,
-        to: 0,
-        fault,
+    // Reads a number of at most `most`.
+    pub(crate) fn number(&mut self, most: u64) -> Result<u64, Fault>
+        ensures { IfOk result (λ number. number ≤ most) }
+    {
+        value_of(self.next()?, most)
     }
-}
 
-// What is wrong with a line whose last field has been read: the first fault, or that there is text behind it.
-pub(crate) fn fault_at_end(line: &[u8], cursor: Cursor) -> Fault {
-    let fault = cursor.fault;
-    let Fault::Nothing = fault else {
-        return fault;
-    };
-    if cursor.at < line.len() {
-        return Fault::TextAfter;
+    pub(crate) fn byte(&mut self) -> Result<u8, Fault> {
+        Ok(self.number(u8::MAX as u64)? as u8)
     }
-    Fault::Nothing
-}
 
-// Whether a response is wanted.
-#[derive(Drop)]
-pub(crate) struct Choice {
-    pub(crate) wanted: bool,
-    pub(crate) after: Cursor,
-}
-
-// Reads `wanted` or `unwanted`.
-pub(crate) fn read_wanted(line: &[u8], cursor: Cursor) -> Choice {
-    let field = next_field(line, cursor);
-    let fault = field.fault;
-    let Fault::Nothing = fault else {
-        return chosen(false, 0, fault);
-    };
-    let from = field.from;
-    let to = field.to;
-    if check::same(&line[from..to], b"wanted") {
-        return chosen(true, to, Fault::Nothing);
+    // Reads the length of a lent buffer.
+    pub(crate) fn lent(&mut self) -> Result<usize, Fault>
+        ensures { IfOk result (λ len. len ≤ lent_max) }
+    {
+        Ok(self.number(LENT_MAX as u64)? as usize)
     }
-    if check::same(&line[from..to], b"unwanted") {
-        return chosen(false, to, Fault::Nothing);
-    }
-    chosen(false, to, Fault::NotWanted)
-}
 
-fn chosen(wanted: bool, at: usize, fault: Fault) -> Choice {
-    let after = Cursor { at, fault };
-    Choice { wanted, after }
+    // Reads `wanted` or `unwanted`: whether a response is wanted.
+    pub(crate) fn wanted(&mut self) -> Result<bool, Fault> {
+        match self.next()? {
+            b"wanted" => Ok(true),
+            b"unwanted" => Ok(false),
+            _ => Err(Fault::NotWanted),
+        }
+    }
+
+    // Reads bytes, `-` for none, to the front of a lent buffer, and answers how many they are.
+    pub(crate) fn bytes(&mut self, bytes: &mut [u8]) -> Result<usize, Fault>
+        ensures { IfOk result (λ count. count ≤ length bytes.new) }
+    {
+        match self.next()? {
+            b"-" => Ok(0),
+            digits => decode(digits, bytes),
+        }
+    }
+
+    // Sees to it that the last field was read.
+    pub(crate) fn end(&self) -> Result<(), Fault> {
+        if !self.rest.is_empty() {
+            return Err(Fault::TextAfter);
+        }
+        Ok(())
+    }
 }

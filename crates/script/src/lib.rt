@@ -4,4 +4,3 @@
 pub mod calls; // the call on a line
 mod fields; // the fields of a line
 mod numbers; // numbers in decimal
-mod pairs; // bytes in hexadecimal

@@ -7,7 +7,6 @@ use native.Mathlib.Omega.{arith}
 use lib.ListN.{length, take, get_or, set}
 use lib.Seq.{take-suc-set, append_snoc}
 use borrow.Author.Tests.{le-leb, lt-leb}
-use Rattle.message.proofs.Buffer.{lent_from, tail}
 use Rattle.script_bytes.specs.Reading.{hex_value, bytes_of}
 
 -- a digit up to 9, and one from a to f
@@ -20,23 +19,24 @@ unfolding hex_value
 hex_high d high = rw (lt-leb d 57 high)
 
 -- one more pair
-pub bytes_next : (s : List ℕ) → 2 ≤ length s
-    → bytes_of s ≡ (hex_value (get_or s 0 0) * 16 + hex_value (get_or s 1 0)) ∷ bytes_of (lent_from 2 s)
+pub bytes_next : (pair t : List ℕ) → 2 ≤ length pair → length pair < 3
+    → bytes_of (pair ++ t) ≡ (hex_value (get_or pair 0 0) * 16 + hex_value (get_or pair 1 0)) ∷ bytes_of t
 unfolding bytes_of
-bytes_next [] some = let z : ◌≡◌ {A = ℕ} 0 1 = omega arith in cc
-bytes_next (h ∷ []) some = let z : ◌≡◌ {A = ℕ} 0 1 = omega arith in cc
-bytes_next (h ∷ l ∷ s) some = rw (tail 2 (h ∷ l ∷ s))
+bytes_next [] t some few = let z : ◌≡◌ {A = ℕ} 0 1 = omega arith in cc
+bytes_next (h ∷ []) t some few = let z : ◌≡◌ {A = ℕ} 0 1 = omega arith in cc
+bytes_next (h ∷ l ∷ []) t some few = refl
+bytes_next (h ∷ l ∷ x ∷ s) t some few = let z : ◌≡◌ {A = ℕ} 0 1 = omega arith in cc
 
--- a pair read, as the invariant of the loop over bytes
-pub bytes_step : (n h l : ℕ) (s all b : List ℕ) → n < length b → 2 ≤ length s → h < 16 → l < 16
-    → (h < 16 → h ≡ hex_value (get_or s 0 0)) → (l < 16 → l ≡ hex_value (get_or s 1 0))
-    → take n b ++ bytes_of s ≡ bytes_of all → take (n + 1) (set b n (h * 16 + l)) ++ bytes_of (lent_from 2 s) ≡ bytes_of all
-bytes_step n h l s all b within some high low is and inv =
-    rw (add-one, take-suc-set b n (h * 16 + l) within, append_snoc (take n b) (h * 16 + l) (bytes_of (lent_from 2 s)))
-    (rw (is high, and low, ← bytes_next s some) inv)
+-- a pair read, as the invariant of the loop over pairs
+pub bytes_step : (n h l : ℕ) (pair t s all b : List ℕ) → n < length b → 2 ≤ length pair → length pair < 3 → s ≡ pair ++ t
+    → h ≡ hex_value (get_or pair 0 0) → l ≡ hex_value (get_or pair 1 0)
+    → take n b ++ bytes_of s ≡ bytes_of all → take (n + 1) (set b n (h * 16 + l)) ++ bytes_of t ≡ bytes_of all
+bytes_step n h l pair t s all b within some few is high low inv =
+    rw (add-one, take-suc-set b n (h * 16 + l) within, append_snoc (take n b) (h * 16 + l) (bytes_of t))
+    (rw (high, low, ← bytes_next pair t some few, ← is) inv)
 
 -- no more pairs
-pub bytes_end : (s : List ℕ) → length s ≤ 0 → bytes_of s ≡ []
+pub bytes_end : (s : List ℕ) → length s ≡ 0 → bytes_of s ≡ []
 unfolding bytes_of
 bytes_end [] none = refl
 bytes_end (h ∷ s) none = let z : ◌≡◌ {A = ℕ} 0 1 = omega arith in cc

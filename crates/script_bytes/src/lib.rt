@@ -4,75 +4,46 @@
 
 pub mod faults; // what is wrong with a script
 
-ghost use Rattle.std.specs.Prelude.{◌≡◌, ◌≤◌, ◌<◌, length, take};
+ghost use Rattle.std.specs.Prelude.{◌≡◌, ◌≤◌, ◌<◌, length, take, IfOk, IfSome};
 ghost use Rattle.script_bytes.specs.Reading.{hex_value, bytes_of};
 
 use crate::faults::Fault;
 
-// How many bytes were decoded, or what is wrong with the digits.
-#[derive(Drop)]
-pub struct Decoded {
-    pub count: usize,
-    pub fault: Fault,
-}
-
-// Decodes pairs to the front of a lent buffer. Public for `script`.
+// Decodes pairs to the front of a lent buffer, and answers how many bytes they are. Public for `script`.
 // Ruled out: the digits of a byte exchanged, and a count past the buffer's end.
-pub fn decode(digits: &[u8], bytes: &mut [u8]) -> Decoded
-    ensures { (result.count ≤ length bytes.new)
-        × (result.fault ≡ Fault.Nothing → take result.count bytes.new ≡ bytes_of digits.now) }
+pub fn decode(digits: &[u8], bytes: &mut [u8]) -> Result<usize, Fault>
+    ensures within { IfOk result (λ count. count ≤ length bytes.new) }
+    ensures reads { IfOk result (λ count. take count bytes.new ≡ bytes_of digits.now) }
 {
-    if digits.len() == 0 {
-        return undecoded(Fault::NotPairs);
+    if digits.is_empty() {
+        return Err(Fault::NotPairs);
     }
     let mut count = 0;
-    let mut rest = digits;
-    while 0 < rest.len() {
-        if rest.len() < 2 {
-            return undecoded(Fault::NotPairs);
-        }
-        let high = digit_of(rest[0]);
-        let low = digit_of(rest[1]);
-        if 16 <= high {
-            return undecoded(Fault::NotPairs);
-        }
-        if 16 <= low {
-            return undecoded(Fault::NotPairs);
-        }
+    for pair in digits.chunks(2) {
+        let [high, low] = pair else {
+            return Err(Fault::NotPairs);
+        };
+        let (Some(high), Some(low)) = (digit_of(*high), digit_of(*low)) else {
+            return Err(Fault::NotPairs);
+        };
         if bytes.len() <= count {
-            return undecoded(Fault::TooManyBytes);
+            return Err(Fault::TooManyBytes);
         }
         bytes[count] = high * 16 + low;
         count += 1;
-        rest = &rest[2..];
     }
-    Decoded {
-        count,
-        fault: Fault::Nothing,
-    }
+    Ok(count)
 }
 
-fn undecoded(fault: Fault) -> Decoded
-    ensures { (result.count ≡ 0) × (result.fault ≡ fault) }
+// The value of a lowercase hexadecimal digit.
+#[tactic(auto, using(crate::proofs::Digits::hex_low, crate::proofs::Digits::hex_high))]
+fn digit_of(byte: u8) -> Option<u8>
+    ensures below { IfSome result (λ digit. digit < 16) }
+    ensures value { IfSome result (λ digit. digit ≡ hex_value byte) }
 {
-    Decoded { count: 0, fault }
-}
-
-// The value of a lowercase hexadecimal digit; 16 for any other byte.
-fn digit_of(byte: u8) -> u8
-    ensures { (result ≤ 16) × (result < 16 → result ≡ hex_value byte) }
-{
-    if byte < b'0' {
-        return 16;
+    match byte {
+        b'0'..=b'9' => Some(byte - b'0'),
+        b'a'..=b'f' => Some(byte - b'a' + 10),
+        _ => None,
     }
-    if byte <= b'9' {
-        return byte - b'0';
-    }
-    if byte < b'a' {
-        return 16;
-    }
-    if byte <= b'f' {
-        return byte - b'a' + 10;
-    }
-    16
 }
