@@ -7,11 +7,11 @@ mod matching; // which fields answer which
 mod places; // where the bytes before the data stand
 
 // A request ID: 16 bits, apart from the 8-bit sequence IDs.
-#[derive(Clone, Copy)]
+#[derive(Clone, Copy, PartialEq, Eq)]
 pub struct RequestId(pub u16);
 
 // What a caller chooses: target category, target ID, source ID, instance ID and command ID.
-#[derive(Clone, Copy)]
+#[derive(Clone, Copy, PartialEq, Eq)]
 pub struct Fields {
     pub tc: u8,
     pub tid: u8,

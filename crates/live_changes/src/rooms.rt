@@ -33,9 +33,7 @@ pub(crate) fn move_up(store: &mut [u8], row: usize, len: usize)
 {
     let to = place_of(row);
     let from = place_of(row + 1);
-    let mut i = 0;
-    while i < len {
+    for i in 0..len {
         store[to + i] = store[from + i];
-        i += 1;
     }
 }

@@ -5,7 +5,7 @@
 pub mod header; // what a header may say
 
 // A sequence ID: 8 bits, apart from the 16-bit request IDs.
-#[derive(Clone, Copy)]
+#[derive(Clone, Copy, PartialEq, Eq)]
 pub struct Seq(pub u8);
 
 // What a writer answers: the message's length, refusal 7 or refusal 6.
