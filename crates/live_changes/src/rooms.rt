@@ -33,7 +33,6 @@ pub(crate) fn move_up(store: &mut [u8], row: usize, len: usize)
 {
     let to = place_of(row);
     let from = place_of(row + 1);
-    for i in 0..len {
-        store[to + i] = store[from + i];
-    }
+    let (before, behind) = store.split_at_mut(from);
+    byte_slices::copy(&behind[..len], &mut before[to..]);
 }
