@@ -4,7 +4,10 @@ use mathlib.Core.Bool.{Bool, true, false, not, ◌&&◌, cond as if}
 use mathlib.Core.List.{List, []}
 use mathlib.Core.Path.{◌≡◌, refl, sym, ap, ◌∙◌}
 use lib.Dec.{leb}
+use lib.ListN.{length}
+use native.Mathlib.Omega.{arith}
 use borrow.Author.Tests.{ne_eqb}
+use Rattle.std.proofs.lemmas.List.{length-take}
 use Rattle.command.specs.Payload.{is_command, data_in}
 use Rattle.link.specs.Promises.{seen_of}
 use Rattle.link.specs.Repeats as repeats
@@ -15,9 +18,14 @@ use Rattle.ledger.specs.Parts.{Ledger, Search, nobody, somebody, oldest}
 use Rattle.ledger.specs.Answers as answer
 use Rattle.ledger.specs.Receiving as receiving
 use Rattle.ledger.specs.Receiving.{flies, acknowledged_in, command_in, ack_message, replying, remembering, only, on_ack, on_nak, on_response, on_data, on_sequenced, on_message}
-use Rattle.ledger.specs.declared.Command.{Command}
 use Rattle.ledger.specs.declared.Word.TheVariants as word
+use Rattle.endpoint.specs.Endpoint.{rows_of}
 use Rattle.endpoint.specs.Places.{after}
+use Rattle.endpoint.specs.declared.Request.{Request}
+use Rattle.endpoint.specs.declared.Requests.{Requests}
+use Rattle.live_changes.specs.Changing.{Names}
+use Rattle.live_changes.specs.declared.Change.{Change}
+use Rattle.live_changes.specs.declared.Change.TheVariants.{Nothing, Turn, End}
 use Rattle.decisions_verdict.specs.Verdicts.{act_of, reply_to}
 use Rattle.decisions_verdict.specs.declared.Verdict.{Verdict}
 use Rattle.decisions_verdict.proofs.Words.{Only, only_act}
@@ -82,3 +90,10 @@ module _ (l : Ledger) (clock type seq : ℕ) (payload : List ℕ) (v : Verdict) 
   message_other no-ack no-nak no-seq h =
       rw (ne_eqb type ack no-ack, ne_eqb type nak no-nak, ne_eqb type data_seq no-seq)
       (ap (λ (s : repeats.Seen). remembering s (on_data l clock payload)) (seen_of_data l clock payload) ∙ h)
+
+-- a change that names a row in use names one of the count
+pub names_in_count : (live : Requests) (rows : List Request) → rows ≡ rows_of live → (change : Change) → Names change (length rows)
+    → Names change live.count
+names_in_count live rows same Nothing named = tt
+names_in_count live rows same (Turn row state) named = omega (arith, ap length same, length-take {A = Request})
+names_in_count live rows same (End row cause) named = omega (arith, ap length same, length-take {A = Request})

@@ -1,64 +1,55 @@
 // What an ACK and a NAK do (document 01, "**Receive** replies and acts by item"): the frame in flight is acknowledged or marked.
 #![tactic(auto)]
 
-ghost use Rattle.std.specs.Prelude.{◌≡◌, List, [], ℕ, ◌≤◌};
+ghost use Rattle.std.specs.Prelude.{◌≡◌, List, [], ℕ, length};
 ghost use Rattle.link.specs.Promises.{seen_of};
-ghost use Rattle.ledger.specs.Parts.{Ledger, live_max, oldest};
+ghost use Rattle.ledger.specs.Parts.{Ledger, oldest};
 ghost use Rattle.ledger.specs.Receiving.{flies, acknowledged_in, on_ack, on_nak};
-ghost use Rattle.endpoint.specs.Endpoint.{live_of};
+ghost use Rattle.endpoint.specs.Endpoint.{requests_from};
 ghost use Rattle.live_changes.specs.Changing.{Names};
 ghost use Rattle.decisions_verdict.specs.Verdicts.{act_of};
 
 use decisions_verdict::{Verdict, only};
-use endpoint::{Requests, State};
+use endpoint::{Request, State};
 use ledger::{Cause, Word};
 use link::repeats::Seen;
 use live_changes::Change;
-use live_search::{Query, find};
+use live_search::{is_acknowledged, is_flying};
 use message::Seq;
 
-// ACK: the frame in flight with its SEQ is acknowledged. For `decisions::judge`, whose callers have refused a malformed endpoint.
+// ACK, of an endpoint with these rows in use: the frame in flight with its SEQ is acknowledged.
 // Ruled out: a request that waits for a response it does not want, and one that ends though a response is wanted.
-pub fn on_ack(live: Requests, seen: Seen, seq: Seq, clock: u64) -> Verdict
-    requires { live.count ≤ live_max }
-    ensures { ((l : Ledger) (store payload : List ℕ) → l.live ≡ live_of live store → l.seen ≡ seen_of seen
+pub fn on_ack(rows: &[Request], seen: Seen, seq: Seq, clock: u64) -> Verdict
+    ensures { ((l : Ledger) (store payload : List ℕ) → l.live ≡ requests_from 0 rows.now store → l.seen ≡ seen_of seen
         → on_ack l clock (oldest (λ q. acknowledged_in seq.0 q.state) l.live) ≡ act_of result [] payload l.live)
-        × Names result.change live.count }
+        × Names result.change (length rows.now) }
 {
-    let row = find(live, Query::Acknowledged(seq));
-    if live.count <= row {
+    let Some(row) = rows.iter().position(|q| is_acknowledged(q.state, seq)) else {
         return only(Word::Stray, seen);
-    }
-    let q = live.rows[row];
-    if q.wanted {
-        return Verdict {
-            word: Word::Nothing,
-            change: Change::Turn(row, State::Waiting(clock)),
-            seen,
-        };
-    }
+    };
+    let change = if rows[row].wanted {
+        Change::Turn(row, State::Waiting(clock))
+    } else {
+        Change::End(row, Cause::Acknowledged)
+    };
     Verdict {
         word: Word::Nothing,
-        change: Change::End(row, Cause::Acknowledged),
+        change,
         seen,
     }
 }
 
-// NAK: the frame in flight is marked. For `decisions::judge` likewise.
+// NAK, likewise: the frame in flight is marked.
 // Ruled out: a NAK that restarts the count of transmissions, and one that ends the request.
-pub fn on_nak(live: Requests, seen: Seen) -> Verdict
-    requires { live.count ≤ live_max }
-    ensures { ((l : Ledger) (clock : ℕ) (store payload : List ℕ) → l.live ≡ live_of live store → l.seen ≡ seen_of seen
+pub fn on_nak(rows: &[Request], seen: Seen) -> Verdict
+    ensures { ((l : Ledger) (clock : ℕ) (store payload : List ℕ) → l.live ≡ requests_from 0 rows.now store → l.seen ≡ seen_of seen
         → on_nak l clock (oldest flies l.live) ≡ act_of result [] payload l.live)
-        × Names result.change live.count }
+        × Names result.change (length rows.now) }
 {
-    let row = find(live, Query::Flying);
-    if live.count <= row {
+    let Some(row) = rows.iter().position(|q| is_flying(q.state)) else {
         return only(Word::Stray, seen);
-    }
-    let q = live.rows[row];
-    let state = q.state;
-    let State::InFlight(frame) = state else {
+    };
+    let State::InFlight(frame) = rows[row].state else {
         return only(Word::Stray, seen);
     };
     Verdict {

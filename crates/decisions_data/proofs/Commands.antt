@@ -1,5 +1,5 @@
 -- What data do, one case a lemma: from what the reader answered, the RQID and the row that was searched.
-use Prim.Native.Nat.{ℕ, ◌≤◌, ◌<◌}
+use Prim.Native.Nat.{ℕ}
 use mathlib.Core.Bool.{Bool, true, false, ◌&&◌, cond as if}
 use mathlib.Core.List.{List, []}
 use mathlib.Core.Option.{none}
@@ -7,6 +7,7 @@ use mathlib.Core.Path.{◌≡◌, refl, sym, ap, ◌∙◌}
 use lib.Dec.{leb}
 use lib.ListN.{length}
 use Rattle.std.specs.Prelude.{Option, Some, None}
+use Rattle.std.specs.List.{position}
 use Rattle.command.specs.Payload.{is_command, fields_in, rqid_in, data_in}
 use Rattle.command.specs.Promises as command
 use Rattle.command.specs.Promises.{fields_of}
@@ -23,11 +24,10 @@ use Rattle.ledger.specs.Receiving.{provided, matches, command_in, remembering, o
 use Rattle.ledger.specs.declared.Cause.TheVariants.{Response}
 use Rattle.ledger.specs.declared.Command.{Command}
 use Rattle.ledger.specs.declared.Word.TheVariants as word
-use Rattle.endpoint.specs.Endpoint.{live_of}
-use Rattle.endpoint.specs.declared.Requests.{Requests}
-use Rattle.live_search.specs.declared.Query.TheVariants as query
-use Rattle.live_search.proofs.Found.{matched, answered_first}
-use Rattle.live_search.proofs.Searched.{Searched, Asks, none_found, one_found}
+use Rattle.endpoint.specs.Endpoint.{request_of, requests_from}
+use Rattle.endpoint.specs.declared.Request.{Request}
+use Rattle.live_search.specs.Searching.{command_with}
+use Rattle.live_search.proofs.Searched.{Asks, matched, match_asks, none_found, one_found}
 use Rattle.live_changes.specs.declared.Change.TheVariants as change
 use Rattle.decisions_verdict.specs.Verdicts.{act_of}
 use Rattle.decisions_verdict.specs.declared.Verdict.{Verdict}
@@ -41,21 +41,25 @@ event l payload c =
 abbrev pub answering : Ledger → answer.Command → Search (Unit {0})
 answering l c = oldest (λ q. provided (matches c q) tt) l.live
 
-module _ (l : Ledger) (clock : ℕ) (store payload : List ℕ) (live : Requests) (same : l.live ≡ live_of live store) (seen : Seen) (it : Command) where
+-- the test of the search
+abbrev pub answered : Command → Request → Bool
+answered it q = matches (command_with (fields_of it.fields) it.id.0 0) (request_of q [])
+
+module _ (l : Ledger) (clock : ℕ) (store payload : List ℕ) (rows : List Request) (same : l.live ≡ requests_from 0 rows store) (seen : Seen)
+    (it : Command) where
   abbrev response : receiving.Act
   response = remembering (seen_of seen) (on_response l clock (command_of it) (data_in payload) (answering l (command_of it)))
 
-  module _ (row : ℕ) (s : Searched live (query.Answered it.fields it.id) row) where
-    abbrev asks : Asks (matched (command_of it)) (query.Answered it.fields it.id)
-    asks = answered_first (command_of it) it.fields it.id refl refl
+  abbrev asks : Asks (matched (command_of it)) (answered it)
+  asks = match_asks (command_of it) it.fields it.id refl refl
 
-    pub response_unmatched : live.count ≤ row → {v : Verdict} → Only v (word.Unmatched it) seen → response ≡ act_of v [] payload l.live
-    response_unmatched none-there o =
-        rw (none_found (matched (command_of it)) s asks l.live store same none-there) (only_act o [] payload l.live)
+  pub response_unmatched : position (answered it) rows ≡ None → {v : Verdict} → Only v (word.Unmatched it) seen → response ≡ act_of v [] payload l.live
+  response_unmatched missing o =
+      rw (none_found (matched (command_of it)) (answered it) asks rows l.live store same missing) (only_act o [] payload l.live)
 
-    pub response_ends : row < live.count
-        → response ≡ act_of (record { word = word.Response it; change = change.End row Response; seen = seen }) [] payload l.live
-    response_ends less = rw (one_found (matched (command_of it)) s asks l.live store same less).found
+  pub response_ends : (row : ℕ) → position (answered it) rows ≡ Some row
+      → response ≡ act_of (record { word = word.Response it; change = change.End row Response; seen = seen }) [] payload l.live
+  response_ends row one = rw (one_found (matched (command_of it)) (answered it) asks rows l.live store same one).found
 
 -- data of either kind
 not_command_law : (payload : List ℕ) (b : Bool) → command.not_command ≡ if b (command.command (fields_in payload) (rqid_in payload)) command.not_command

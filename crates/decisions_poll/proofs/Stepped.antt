@@ -1,26 +1,33 @@
 -- What the searches of a poll found says which of its steps applies: each is one case of "does the first that applies".
-use Prim.Native.Nat.{ℕ, ◌≤◌, ◌<◌}
+use Prim.Native.Nat.{ℕ, ◌<◌}
 use mathlib.Core.Bool.{Bool, true, false, cond as if}
 use mathlib.Core.List.{List}
 use mathlib.Core.Option.{none, some}
 use mathlib.Core.Path.{◌≡◌, refl, sym, ap, ◌∙◌}
+use native.Mathlib.Omega.{arith}
+use lib.ListN.{length}
+use Rattle.std.specs.Prelude.{Some, None}
+use Rattle.std.specs.List.{position}
+use Rattle.std.proofs.lemmas.List.{length-take}
 use Rattle.link.specs.Frames as link
 use Rattle.link.specs.Frames.{due, may_go_again, sent_again}
 use Rattle.link.specs.Promises.{frame_of}
 use Rattle.ledger.specs.Parts as ledger
 use Rattle.ledger.specs.Parts.{Ledger, in_flight, nobody, oldest}
-use Rattle.ledger.specs.Receiving.{flies}
+use Rattle.ledger.specs.Receiving.{flies, frame_in}
 use Rattle.ledger.specs.Polling as polling
 use Rattle.ledger.specs.Polling.{overdue_in, queued_in, or_else}
 use Rattle.ledger.specs.declared.Cause.TheVariants.{NoResponse, NoAcknowledgement}
-use Rattle.endpoint.specs.Endpoint.{state_of, live_of}
+use Rattle.endpoint.specs.Endpoint.{state_of, rows_of, live_of}
 use Rattle.endpoint.specs.Places.{at}
 use Rattle.endpoint.specs.declared.State.{State}
 use Rattle.endpoint.specs.declared.State.TheVariants.{InFlight}
 use Rattle.endpoint.specs.declared.Requests.{Requests}
-use Rattle.live_search.specs.declared.Query.TheVariants.{Overdue, Flying, Queued}
+use Rattle.endpoint.specs.declared.Request.{Request}
+use Rattle.live_search.specs.Searching.{is_shown}
+use Rattle.live_search.proofs.Found.{position_one}
 use Rattle.link.specs.declared.frame.Frame.{Frame}
-use Rattle.live_search.proofs.Searched.{Searched, Finds, row_at, none_found, one_found, found_row, flying_state}
+use Rattle.live_search.proofs.Searched.{Finds, row_at, none_found, one_found, found_row, flying_state}
 use Rattle.decisions_poll.specs.Steps.{sent_from, step_of, Reaches, Steps, frame_act}
 use Rattle.decisions_poll.specs.declared.Step.{Step}
 use Rattle.decisions_poll.specs.declared.Step.TheVariants.{End, Again, First, Quiet}
@@ -66,48 +73,64 @@ module _ (l : Ledger) (clock row : ℕ) {state : State} {g : Frame} (is : state 
       → step_of (End row NoAcknowledgement) l clock ≡ frame_act l clock f row
   given_up h no_more = rw (same_frame, h, no_more)
 
+-- the tests of the three searches
+abbrev pub overdue : (clock : ℕ) → Request → Bool
+overdue clock q = is_shown (overdue_in clock (state_of q.state))
+
+abbrev pub flying : Request → Bool
+flying q = is_shown (frame_in (state_of q.state))
+
+abbrev pub waits : Request → Bool
+waits q = is_shown (queued_in (state_of q.state))
+
+-- the rows in use are no more than the count
+in_count : (live : Requests) (row : ℕ) → row < length (rows_of live) → row < live.count
+in_count live row less = omega (arith, length-take {A = Request})
+
 -- the same for the rows that were searched
-module _ {live : Requests} {clock row : ℕ} (overdue : Searched live (Overdue clock) row) where
-  pub steps_overdue : row < live.count → Steps (End row NoResponse) live clock
-  steps_overdue less = record {
+module _ (live : Requests) (clock : ℕ) (row : ℕ) where
+  pub steps_overdue : position (overdue clock) (rows_of live) ≡ Some row → Steps (End row NoResponse) live clock
+  steps_overdue one = record {
     acts = λ l store same.
-        overdue_acts l clock row (one_found (λ q. overdue_in clock q.state) overdue (λ them. refl) l.live store same less);
-    reaches = less;
+        overdue_acts l clock row
+        (one_found (λ q. overdue_in clock q.state) (overdue clock) (λ q b. refl) (rows_of live) l.live store same one);
+    reaches = in_count live row (position_one (overdue clock) (rows_of live) row one).1;
   }
 
-  module _ (none-overdue : live.count ≤ row) {row2 : ℕ} (flying : Searched live Flying row2) where
+  module _ (none-overdue : position (overdue clock) (rows_of live) ≡ None) where
     no_wait : (l : Ledger) (store : List ℕ) → l.live ≡ live_of live store → oldest (λ q. overdue_in clock q.state) l.live ≡ nobody
-    no_wait l store same = none_found (λ q. overdue_in clock q.state) overdue (λ them. refl) l.live store same none-overdue
+    no_wait l store same =
+        none_found (λ q. overdue_in clock q.state) (overdue clock) (λ q b. refl) (rows_of live) l.live store same none-overdue
 
-    pub steps_frame : row2 < live.count → (s : Step)
-        → ((l : Ledger) (f : link.Frame) → state_of (row_at live row2).state ≡ in_flight f → step_of s l clock ≡ frame_act l clock f row2)
-        × ((n : ℕ) → row2 < n → Reaches s n)
+    pub steps_frame : position flying (rows_of live) ≡ Some row → (s : Step)
+        → ((l : Ledger) (f : link.Frame) → state_of (row_at (rows_of live) row).state ≡ in_flight f → step_of s l clock ≡ frame_act l clock f row)
+        × ((n : ℕ) → row < n → Reaches s n)
         → Steps s live clock
-    steps_frame less s frame = record {
+    steps_frame one s frame = record {
       acts = λ l store same.
-          let o = one_found flies flying (λ them. refl) l.live store same less in
-          let there = ap (λ (q : ledger.Request). q.state) (found_row flies flying (λ them. refl) l.live store same less) in
-          frame_acts l clock row2 (no_wait l store same) o
-          ∙ sym (frame.0 l o.what (sym there ∙ flying_state (at row2 l.live).state o.shown));
-      reaches = frame.1 live.count less;
+          let o = one_found flies flying (λ q b. refl) (rows_of live) l.live store same one in
+          let there = ap (λ (q : ledger.Request). q.state) (found_row flies flying (λ q b. refl) (rows_of live) l.live store same one) in
+          frame_acts l clock row (no_wait l store same) o
+          ∙ sym (frame.0 l o.what (sym there ∙ flying_state (at row l.live).state o.shown));
+      reaches = frame.1 live.count (in_count live row (position_one flying (rows_of live) row one).1);
     }
 
-    module _ (none_flying : live.count ≤ row2) {row3 : ℕ} (queued : Searched live Queued row3) where
+    module _ (none_flying : position flying (rows_of live) ≡ None) where
       no_flight : (l : Ledger) (store : List ℕ) → l.live ≡ live_of live store → oldest flies l.live ≡ nobody
-      no_flight l store same = none_found flies flying (λ them. refl) l.live store same none_flying
+      no_flight l store same = none_found flies flying (λ q b. refl) (rows_of live) l.live store same none_flying
 
-      pub steps_first : row3 < live.count → Steps (First row3) live clock
-      steps_first less = record {
+      pub steps_first : position waits (rows_of live) ≡ Some row → Steps (First row) live clock
+      steps_first one = record {
         acts = λ l store same.
-            first_acts l clock row3 (no_wait l store same) (no_flight l store same)
-            (one_found (λ q. queued_in q.state) queued (λ them. refl) l.live store same less);
-        reaches = less;
+            first_acts l clock row (no_wait l store same) (no_flight l store same)
+            (one_found (λ q. queued_in q.state) waits (λ q b. refl) (rows_of live) l.live store same one);
+        reaches = in_count live row (position_one waits (rows_of live) row one).1;
       }
 
-      pub steps_quiet : live.count ≤ row3 → Steps Quiet live clock
+      pub steps_quiet : position waits (rows_of live) ≡ None → Steps Quiet live clock
       steps_quiet none-queued = record {
         acts = λ l store same.
-            quiet_acts l clock row3 (no_wait l store same) (no_flight l store same)
-            (none_found (λ q. queued_in q.state) queued (λ them. refl) l.live store same none-queued);
+            quiet_acts l clock row (no_wait l store same) (no_flight l store same)
+            (none_found (λ q. queued_in q.state) waits (λ q b. refl) (rows_of live) l.live store same none-queued);
         reaches = tt;
       }

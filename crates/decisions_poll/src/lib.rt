@@ -1,16 +1,16 @@
 // What a poll does: "the first that applies" (document 01, **Poll** 1 to 4). Only the live requests and the clock decide.
 #![tactic(auto)]
 
-ghost use Rattle.std.specs.Prelude.{◌≡◌, ℕ, ◌≤◌, ◌<◌};
+ghost use Rattle.std.specs.Prelude.{◌≡◌, ℕ, ◌<◌};
 ghost use Rattle.link.specs.Frames as link;
-ghost use Rattle.ledger.specs.Parts.{Ledger, live_max, in_flight};
+ghost use Rattle.ledger.specs.Parts.{Ledger, in_flight};
 ghost use Rattle.endpoint.specs.Endpoint.{state_of};
 ghost use Rattle.decisions_poll.specs.Steps.{step_of, Reaches, Steps, frame_act};
 
 use endpoint::{Requests, State};
 use ledger::Cause;
 use link::frame::Frame;
-use live_states::{oldest_flying, oldest_overdue, oldest_queued};
+use live_search::{is_flying, is_overdue, is_queued};
 
 // The request in a row ends, its frame is sent again as this one, it is sent for the first time, or nothing is to be done.
 #[derive(Drop)]
@@ -21,25 +21,19 @@ pub enum Step {
     Quiet,
 }
 
-// The step that applies first. Asks that the rows are within their array: the callers have refused a malformed endpoint.
+// The step that applies first.
 // Ruled out: a frame before a wait that is over, a queued request sent while one is in flight, and a mark that stays.
 pub fn next_step(live: Requests, clock: u64) -> Step
-    requires { live.count ≤ live_max }
     ensures { Steps result live clock }
 {
-    let count = live.count;
-    let overdue = oldest_overdue(live, clock);
-    let flying = oldest_flying(live);
-    if overdue < count {
+    let rows = live.in_use();
+    if let Some(overdue) = rows.iter().position(|q| is_overdue(q.state, clock)) {
         return Step::End(overdue, Cause::NoResponse);
     }
-    if flying < count {
-        let q = live.rows[flying];
-        let state = q.state;
-        return frame_step(flying, state, clock);
+    if let Some(flying) = rows.iter().position(|q| is_flying(q.state)) {
+        return frame_step(flying, rows[flying].state, clock);
     }
-    let queued = oldest_queued(live);
-    if queued < count {
+    if let Some(queued) = rows.iter().position(|q| is_queued(q.state)) {
         return Step::First(queued);
     }
     Step::Quiet

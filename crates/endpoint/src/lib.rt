@@ -1,11 +1,15 @@
 // The host endpoint as its callers hold it (document 01, "The ledger"): numbers by value, bytes in a store that the caller lends.
 #![tactic(auto)]
 
+ghost use Rattle.std.specs.Prelude.{◌≡◌};
+ghost use Rattle.endpoint.specs.Endpoint.{rows_of};
+
 use command::{Fields, MAX_DATA, RequestId};
 use line::HELD_MAX;
 use link::frame::Frame;
 use link::repeats::Seen;
 use message::Seq;
+use std::cmp::min;
 
 // How many requests may be live ("at most three live requests").
 pub const LIVE_MAX: usize = 3;
@@ -46,6 +50,16 @@ pub struct Request {
 pub struct Requests {
     pub rows: [Request; LIVE_MAX],
     pub count: usize,
+}
+
+impl Requests {
+    // The rows in use, oldest first. A count over LIVE_MAX, which the malformed rule names, gives all rows.
+    // Ruled out: a row that is not in use, and the last row in use left out.
+    pub fn in_use(&self) -> &[Request]
+        ensures { result.now ≡ rows_of self.now }
+    {
+        &self.rows[..min(self.count, LIVE_MAX)]
+    }
 }
 
 // An endpoint, beside its store: the live requests, R, the last accepted reading of the clock, the next SEQ, the next request ID,

@@ -20,7 +20,7 @@ use ledger::{Cause, Ending};
 use link::frame::Frame;
 use link::sequence;
 use live_changes::{Change, carry_out};
-use live_deadline::{Time, time_left};
+use live_deadline::time_left;
 use refusals::{Check, check_poll};
 
 // What `host::poll` does and promises.
@@ -91,11 +91,11 @@ fn quiet(e: Endpoint, clock: u64) -> Polled
     let time = time_left(live, clock);
     let endpoint = after(e, live, seq, clock);
     match time {
-        Time::In(ms) => Polled {
+        Some(ms) => Polled {
             answer: PollAnswer::Quiet(ms),
             endpoint,
         },
-        Time::Never => Polled {
+        None => Polled {
             answer: PollAnswer::NoDeadline,
             endpoint,
         },

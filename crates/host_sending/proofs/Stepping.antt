@@ -28,9 +28,9 @@ use Rattle.endpoint.proofs.Rows.{blank_row}
 use Rattle.live_changes.specs.Changing.{changed, Becomes}
 use Rattle.live_changes.specs.declared.Change.TheVariants.{Turn, End}
 use Rattle.live_changes.proofs.Becoming.{live_at}
+use Rattle.std.specs.Prelude as std
+use Rattle.std.specs.Prelude.{Some, None}
 use Rattle.live_deadline.specs.Deadlines.{time_of, left_of}
-use Rattle.live_deadline.specs.declared.Time.{Time}
-use Rattle.live_deadline.specs.declared.Time.TheVariants.{Never, In}
 use Rattle.live_deadline.proofs.Times.{earliest_rows}
 use Rattle.frames.specs.Promises.{Put}
 use Rattle.decisions_poll.specs.Steps.{step_of, sent_from, Reaches, Steps}
@@ -89,12 +89,12 @@ module _ (e : Endpoint) (clock : ℕ) (store : List ℕ) (ready : Sound e clock)
       })
 
   -- nothing is due
-  rests : (time : Time) → time_of time ≡ left_of clock (earliest (bare_of (rows_of e.live)))
+  rests : (time : std.Option ℕ) → time_of time ≡ left_of clock (earliest (bare_of (rows_of e.live)))
       → time_of time ≡ map (◌- clock) (earliest (live_of e.live store))
   rests time left = left ∙ ap (left_of clock) (sym (earliest_rows (rows_of e.live) 0 store))
 
-  pub quiet_in : (time : Time) (ms : ℕ) (after : Endpoint) (output : List ℕ)
-      → time_of time ≡ left_of clock (earliest (bare_of (rows_of e.live))) → time ≡ In ms
+  pub quiet_in : (time : std.Option ℕ) (ms : ℕ) (after : Endpoint) (output : List ℕ)
+      → time_of time ≡ left_of clock (earliest (bare_of (rows_of e.live))) → time ≡ Some ms
       → after ≡ polled_endpoint e e.live e.seq clock
       → Does (polled_as (ledger_of e store) (step4 (ledger_of e store) clock) output clock)
       (poll_result (record { answer = answer.Quiet ms; endpoint = after }) store output)
@@ -108,8 +108,8 @@ module _ (e : Endpoint) (clock : ℕ) (store : List ℕ) (ready : Sound e clock)
         holds = held_of e ready.sound;
       })
 
-  pub quiet_never : (time : Time) (after : Endpoint) (output : List ℕ)
-      → time_of time ≡ left_of clock (earliest (bare_of (rows_of e.live))) → time ≡ Never
+  pub quiet_never : (time : std.Option ℕ) (after : Endpoint) (output : List ℕ)
+      → time_of time ≡ left_of clock (earliest (bare_of (rows_of e.live))) → time ≡ None
       → after ≡ polled_endpoint e e.live e.seq clock
       → Does (polled_as (ledger_of e store) (step4 (ledger_of e store) clock) output clock)
       (poll_result (record { answer = answer.NoDeadline; endpoint = after }) store output)

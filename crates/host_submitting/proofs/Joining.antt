@@ -23,6 +23,7 @@ use Rattle.endpoint.specs.declared.Endpoint.{Endpoint}
 use Rattle.endpoint.specs.declared.Request.{Request}
 use Rattle.endpoint.specs.declared.Requests.{Requests}
 use Rattle.endpoint.specs.declared.State.TheVariants.{Queued}
+use Rattle.endpoint.proofs.Rows.{length_rows}
 use Rattle.live_changes.specs.Changing.{Becomes}
 use Rattle.live_changes.proofs.Becoming.{length_live}
 use Rattle.live_ids.proofs.FirstFree.{free_rows}
@@ -80,6 +81,14 @@ module _ (e : Endpoint) (fields : Fields) (wanted : Bool) (clock : ℕ) (store b
         fits = becomes.fits;
         holds = held_of e ready.sound;
       })
+
+-- the ID was looked for in the rows in use, which are as many as are counted
+pub free_in_use : (e : Endpoint) → length e.live.rows ≡ live_max → {clock : ℕ} → Sound e clock → (rows : List Request) → rows ≡ rows_of e.live
+    → (id : ℕ) → id ≡ first_free (length rows) e.reserved (bare_of rows) e.next.0
+    → id ≡ first_free e.live.count e.reserved (bare_of (rows_of e.live)) e.next.0
+free_in_use e three ready rows same id found =
+    let many : length rows ≡ e.live.count = ap length same ∙ length_rows e.live three (few_of e ready.sound) in
+    found ∙ rw (many, same)
 
 -- the table as submit tests it: where the endpoint is not malformed, as many are live as it counts
 pub submit_table : (e : Endpoint) (store : List ℕ) (fields : payload.Fields) (bytes : List ℕ) (wanted : Bool) (clock : ℕ)

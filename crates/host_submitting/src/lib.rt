@@ -54,8 +54,7 @@ fn accept(
         (submit_result result store.new) }
 {
     let rows = e.live;
-    let from = e.next;
-    let id = first_free(rows, e.reserved, from);
+    let id = first_free(rows.in_use(), e.reserved, e.next);
     let it = Request {
         id,
         fields,

@@ -1,54 +1,27 @@
--- Bytes of a buffer put at an earlier place of it one by one: what the first i of them leave.
-use Prim.Native.Nat.{ℕ, suc, ◌+◌, ◌-◌, ◌≤◌, ◌<◌}
-use mathlib.Core.List.{List, [], ◌∷◌, ◌++◌}
+-- Bytes of a buffer copied to an earlier place of it, up to the bytes themselves: what that leaves.
+use Prim.Native.Nat.{ℕ, ◌+◌, ◌≤◌}
+use mathlib.Core.List.{List, ◌++◌}
 use mathlib.Core.Path.{◌≡◌, sym, ap, ◌∙◌}
-use native.Mathlib.Nat.{add-zero}
-use native.Mathlib.Numerals.{add-one}
 use native.Mathlib.Omega.{arith}
-use lib.ListN.{length, take, drop, get_or, set, length-drop, take-append-drop}
-use lib.Seq.{take-suc, set_split, get_or-drop}
+use lib.ListN.{length, take, drop, length-drop, take-append-drop}
+use Rattle.std.proofs.Common.{append_assoc}
+use Rattle.std.proofs.lemmas.List.{length-take-le, take-append-le, drop-append-le}
 use Rattle.message.specs.Writing.{placed}
-use Rattle.message.proofs.Buffer.{length_placed, neighbours, beyond_placed}
-use Rattle.line.proofs.Moving.{length_part}
+use Rattle.message.proofs.Buffer.{lent_from, given_back, copied}
 
--- a buffer in which the i bytes from a place on stand at another as well
-abbrev pub pulled : (to from i : ℕ) → List ℕ → List ℕ
-pulled to from i l = placed to (take i (drop from l)) l
-
-pub pulled_none : (to from : ℕ) (l : List ℕ) → pulled to from 0 l ≡ l
-unfolding placed
-pulled_none to from l = rw (add-zero to, take-append-drop to l)
-
--- a byte stored is one byte placed
-stored : (k a : ℕ) (l : List ℕ) → k < length l → set l k a ≡ placed k (a ∷ []) l
-unfolding placed
-stored k a l h = set_split l k a h ∙ rw (add-one k)
-
-module _ (to from i : ℕ) (l : List ℕ) (up : to ≤ from) (within : from + i ≤ length l) where
-  count : length (take i (drop from l)) ≡ i
-  count = length_part from i l within
-
-  pub length_pulled : length (pulled to from i l) ≡ length l
-  length_pulled = length_placed to (take i (drop from l)) l (omega (arith, count))
-
-  -- a byte that is not there yet
-  pulled_at : (d : ℕ) → get_or (pulled to from i l) (from + i) d ≡ get_or l (from + i) d
-  pulled_at d =
-      let sum : to + length (take i (drop from l)) + (from - to) ≡ from + i = omega (arith, count) in
-      let rest : drop (from + i) (pulled to from i l) ≡ drop (from + i) l =
-      rw sum at (beyond_placed to (take i (drop from l)) l (omega (arith, count)) (from - to)) in
-      let first = get_or-drop (from + i) (pulled to from i l) 0 d in
-      let second = get_or-drop (from + i) l 0 d in
-      rw add-zero at (sym first ∙ ap (λ (x : List ℕ). get_or x 0 d) rest ∙ second)
-
-  -- one byte more
-  pub pulled_next : from + i < length l
-      → set (pulled to from i l) (to + i) (get_or (pulled to from i l) (from + i) 0) ≡ pulled to from (suc i) l
-  pulled_next more =
-      let a = get_or l (from + i) 0 in
-      let m = take i (drop from l) in
-      let next : take (suc i) (drop from l) ≡ m ++ (a ∷ []) =
-      take-suc (drop from l) i 0 (rw (length-drop from l) (omega arith)) ∙ rw (get_or-drop from l i 0) in
-      let joined : placed (to + i) (a ∷ []) (pulled to from i l) ≡ placed to (m ++ (a ∷ [])) l =
-      rw count at (neighbours to m (a ∷ []) l (omega (arith, count))) in
-      rw (pulled_at 0, next) (stored (to + i) a (pulled to from i l) (omega (arith, length_pulled)) ∙ joined)
+module _ (to from len : ℕ) (s : List ℕ) (apart : to + len ≤ from) (within : from + len ≤ length s) where
+  pub moved_up : (low high m x : List ℕ) → low ≡ take from s → high ≡ drop from s → m ≡ take len high
+      → x ≡ take (length m) m ++ drop (length m) (lent_from to low)
+      → given_back to low x ++ high ≡ placed to (take len (drop from s)) s
+  unfolding placed
+  moved_up low high m x is-low is-high is-m copy =
+      let room : len ≤ length high = rw is-high (rw (length-drop from s) (omega arith)) in
+      let many : length m ≡ len = rw is-m (length-take-le len high room) in
+      let front : length low ≡ from = rw is-low (length-take-le from s (omega arith)) in
+      let put : given_back to low x ≡ take to low ++ (m ++ drop (to + length m) low) = copied to m low x (omega arith) copy in
+      let whole : low ++ high ≡ s = rw (is-low, is-high) (take-append-drop from s) in
+      let same : take len (drop from s) ≡ m = sym (is-m ∙ ap (take len) is-high) in
+      let ahead : take to s ≡ take to low = rw (← whole) (take-append-le to low high (omega arith)) in
+      let behind : drop (to + length m) s ≡ drop (to + length m) low ++ high =
+      rw (← whole) (drop-append-le (to + length m) low high (omega arith)) in
+      rw (put, same, ahead, behind) (simp append_assoc)

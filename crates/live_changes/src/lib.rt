@@ -43,15 +43,9 @@ fn turned(live: Requests, row: usize, state: State) -> Requests
     requires { Fits live × (row < live.count) }
     ensures { (store : List ℕ) → Becomes result (changed (Turn row state) (live_of live store)) store store }
 {
-    let q = live.rows[row];
-    let id = q.id;
-    let fields = q.fields;
     let it = Request {
-        id,
-        fields,
-        wanted: q.wanted,
-        len: q.len,
         state,
+        ..live.rows[row]
     };
     with_row(live, row, it)
 }
@@ -74,13 +68,10 @@ fn without(live: Requests, store: &mut [u8], row: usize) -> Requests
 {
     let last = live.count - 1;
     let mut next = live;
-    let mut i = row;
-    while i < last {
+    for i in row..last {
         let q = next.rows[i + 1];
-        let len = q.len;
-        move_up(store, i, len);
+        move_up(store, i, q.len);
         next.rows[i] = q;
-        i += 1;
     }
     next.count = last;
     next

@@ -33,9 +33,6 @@ pub(crate) fn move_up(store: &mut [u8], row: usize, len: usize)
 {
     let to = place_of(row);
     let from = place_of(row + 1);
-    let mut i = 0;
-    while i < len {
-        store[to + i] = store[from + i];
-        i += 1;
-    }
+    let (before, behind) = store.split_at_mut(from);
+    byte_slices::copy(&behind[..len], &mut before[to..]);
 }

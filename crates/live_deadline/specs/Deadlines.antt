@@ -1,17 +1,16 @@
 -- The time to a deadline, and that no time is later than the clock.
-use Rattle.std.specs.Prelude.{ℕ, ◌-◌, ◌≤◌, List, [], ◌∷◌}
+use Rattle.std.specs.Prelude as std
+use Rattle.std.specs.Prelude.{ℕ, ◌-◌, ◌≤◌, List, [], ◌∷◌, Some, None}
 use Rattle.std.proofs.Math.Option.{Option, none, some, map}
 use Rattle.ledger.specs.Parts as ledger
 use Rattle.ledger.specs.Parts.{queued, in_flight, waiting}
 use Rattle.endpoint.specs.Endpoint.{state_of}
 use Rattle.endpoint.specs.declared.Request.{Request}
-use Rattle.live_deadline.specs.declared.Time.{Time}
-use Rattle.live_deadline.specs.declared.Time.TheVariants.{Never, In}
 
 -- the time that is answered
-abbrev pub time_of : Time → Option ℕ
-time_of Never = none
-time_of (In ms) = some ms
+abbrev pub time_of : std.Option ℕ → Option ℕ
+time_of None = none
+time_of (Some ms) = some ms
 
 -- the milliseconds from a reading to a deadline
 abbrev pub left_of : (clock : ℕ) → (deadline : Option ℕ) → Option ℕ

@@ -1,4 +1,2 @@
-pub mod Shown
 pub mod Found
-pub mod Turns
 pub mod Searched

@@ -21,18 +21,11 @@ pub fn is_outside(reserved: u64, id: RequestId) -> bool
 
 // Whether a request breaks the rule by itself. For `malformed_rule`, which asks it of each row in use.
 // Ruled out: 249 bytes of data let through, and a frame that went out three times refused.
+#[tactic(auto, unfolding(endpoint::specs::Code::bad_request))]
 pub fn is_bad(q: Request, reserved: u64, clock: u64) -> bool
     ensures { result ≡ bad_request reserved clock q }
 {
-    let id = q.id;
-    if is_outside(reserved, id) {
-        return true;
-    }
-    if is_too_long(q.len) {
-        return true;
-    }
-    let state = q.state;
-    is_bad_state(state, q.wanted, clock)
+    is_outside(reserved, q.id) || is_too_long(q.len) || is_bad_state(q.state, q.wanted, clock)
 }
 
 // Whether a state breaks the rule: transmissions not 1 to 3, waiting where no response is wanted, a time later than the clock.

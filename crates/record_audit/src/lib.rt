@@ -1,16 +1,15 @@
 // The request-row audit (document 01, "Request-row audit") over request records: the row is lent, and walked by reference.
 #![tactic(auto)]
 
-ghost use Rattle.std.specs.Prelude.{◌≡◌, ◌≤◌, take};
+ghost use Rattle.std.specs.Prelude.{◌≡◌};
 ghost use Rattle.audit.specs.Audit.{audit};
 ghost use Rattle.audit.specs.Promises.{position_of};
-ghost use Rattle.ledger.specs.Parts.{live_max};
 ghost use Rattle.endpoint.specs.Endpoint.{rows_of};
 ghost use Rattle.record_audit.specs.Records.{ids_of};
 
 use audit::Finding;
 use audit::seen::{WORDS, is_unsound};
-use endpoint::{LIVE_MAX, Request, Requests};
+use endpoint::{Request, Requests};
 
 // Audits the IDs of a row of request records, beside a number R. The row is only read.
 // Ruled out: a record passed over, and a finding for fields other than the ID.
@@ -18,12 +17,10 @@ pub fn audit_records(row: &[Request], reserved: u64) -> Finding
     ensures { position_of result ≡ audit reserved (ids_of row.now) }
 {
     let mut seen = [0; WORDS];
-    let mut i = 0;
-    while i < row.len() {
-        if is_unsound(row[i].id.0, reserved, &mut seen) {
+    for (i, q) in row.iter().enumerate() {
+        if is_unsound(q.id.0, reserved, &mut seen) {
             return Finding::At(i);
         }
-        i += 1;
     }
     Finding::None
 }
@@ -33,17 +30,5 @@ pub fn audit_records(row: &[Request], reserved: u64) -> Finding
 pub fn audit_live(live: Requests, reserved: u64) -> Finding
     ensures { position_of result ≡ audit reserved (ids_of (rows_of live)) }
 {
-    let rows = live.rows;
-    if live.count < LIVE_MAX {
-        return audit_first(rows, live.count, reserved);
-    }
-    audit_first(rows, LIVE_MAX, reserved)
-}
-
-// Audits the first rows of an array. `audit_live` asks for no more than there are.
-fn audit_first(rows: [Request; LIVE_MAX], count: usize, reserved: u64) -> Finding
-    requires { count ≤ live_max }
-    ensures { position_of result ≡ audit reserved (ids_of (take count rows)) }
-{
-    audit_records(&rows[..count], reserved)
+    audit_records(live.in_use(), reserved)
 }

@@ -1,6 +1,7 @@
 -- `decisions::on_sequenced` meets its contract: a repeat is only a word, and another frame is remembered and does what its
 -- data do.
 use mathlib.Core.Path.{sym, ◌∙◌}
+use lib.ListN.{length}
 use Rattle.decisions_verdict.proofs.Words.{only_names}
 use Rattle.decisions.proofs.Messages.{sequenced_repeat, sequenced_new}
 use Rattle.decisions.proofs.on_sequenced.Goals as goal
@@ -11,7 +12,7 @@ returns-then-is_repeat c =
     let test = c.is_repeat.ensures in (
       λ l clock store same r last.
           sequenced_repeat l clock a.seq.0 a.payload.now a.seen last (sym test ∙ c.if-is_repeat.true) c.only.ensures,
-      only_names c.only.ensures a.live.count,
+      only_names c.only.ensures (length a.rows.now),
     )
 
 pub returns : goal.returns
@@ -20,8 +21,8 @@ returns c =
     let test = c.is_repeat.ensures in (
       λ l clock store same r last.
           sequenced_new l clock a.seq.0 a.payload.now a.seen last (sym test ∙ c.if-is_repeat.false)
-          c.after-after.result
-          c.after-after.ensures
+          c.after.result
+          c.after.ensures
           c.on_data.result
           (c.on_data.ensures.0 l clock store same r),
       c.on_data.ensures.1,

@@ -18,7 +18,7 @@ returns-in_default c =
       λ l clock store same r.
           data_none l clock a.payload.now a.seen (read_none a.payload.now read c.in_default.is)
           c.only.ensures,
-      only_names c.only.ensures a.live.count,
+      only_names c.only.ensures (length a.rows.now),
     )
 
 pub returns-then-is_event : goal.returns-then-is_event
@@ -35,7 +35,7 @@ returns-then-is_event c =
           data_event l clock a.payload.now a.seen told r
           (sym c.is_event.ensures ∙ c.if-is_event.true)
           c.only-then-is_event.ensures,
-      only_names c.only-then-is_event.ensures c.args.live.count,
+      only_names c.only-then-is_event.ensures (length c.args.rows.now),
     )
 
 pub returns : goal.returns

@@ -1,28 +1,33 @@
 -- `decisions_data::on_response` meets its contract: by the row that was found.
-use native.Mathlib.Omega.{arith}
-use Rattle.live_search.specs.declared.Query.TheVariants.{Answered}
-use Rattle.live_search.proofs.Searched.{Searched}
+use Rattle.std.proofs.Common.{rules, ◌≡◌, sym, ◌∙◌, length, tests}
+use Rattle.std.specs.List.{position}
+use Rattle.std.proofs.lemmas.Iterator.{YieldsList-from_slice}
+use Rattle.std.proofs.lemmas.Iterator.Search.{position_from_yields_List}
 use Rattle.decisions_verdict.proofs.Words.{only_names}
-use Rattle.decisions_data.proofs.Commands.{response_unmatched, response_ends}
+use Rattle.decisions_data.proofs.Commands.{answered, response_unmatched, response_ends}
+use Rattle.decisions_data.proofs.on_response.Goals.{After-position}
 use Rattle.decisions_data.proofs.on_response.Goals as goal
 
 -- the row that the search answers
-pub returns-then-live-row : goal.returns-then-live-row
-returns-then-live-row c =
-    let searched : let a = c.args in Searched a.live (Answered a.it.fields a.it.id) c.find-row.result = record { full = c.well_formed.0.1.1.0.1.0.1; few = c.requires; is = c.find-row.ensures } in
-    let a = c.args in (
+searched : (c : After-position) → c.position.result ≡ position (answered c.args.it) c.args.rows.now
+searched c =
+    position_from_yields_List (answered c.args.it) _ _ c.position.result c.position.ensures.ran (YieldsList-from_slice _ c.iter.ensures.rest)
+    (λ x b q k. search (rules, tests))
+
+pub returns-in_default : goal.returns-in_default
+returns-in_default c =
+    let a = c.args in
+    let at = searched (goal.at.returns-in_default c).After-position in (
       λ l clock store payload same.
-          response_unmatched l clock store payload a.live same a.seen a.it c.find-row.result searched
-          c.if-live-row.true
-          c.only.ensures,
-      only_names c.only.ensures a.live.count,
+          response_unmatched l clock store payload a.rows.now same a.seen a.it (sym at ∙ c.in_default.is) c.only.ensures,
+      only_names c.only.ensures (length a.rows.now),
     )
 
 pub returns : goal.returns
 returns c =
-    let searched : let a = c.args in Searched a.live (Answered a.it.fields a.it.id) c.find-row.result = record { full = c.well_formed.0.1.1.0.1.0.1; few = c.requires; is = c.find-row.ensures } in
-    let a = c.args in (
+    let a = c.args in
+    let at = searched (goal.at.returns c).After-position in (
       λ l clock store payload same.
-          response_ends l clock store payload a.live same a.seen a.it c.find-row.result searched c.if-live-row.false,
-      omega arith,
+          response_ends l clock store payload a.rows.now same a.seen a.it c.in-Some.row (sym at ∙ c.in-Some.is),
+      search rules,
     )

@@ -1,33 +1,58 @@
 -- `decisions_poll::next_step` meets its contract: each `return` is a case of what the searches found.
-use native.Mathlib.Omega.{arith}
-use Rattle.live_search.specs.declared.Query.TheVariants.{Overdue, Flying, Queued}
-use Rattle.live_search.proofs.Searched.{Searched}
-use Rattle.decisions_poll.proofs.Stepped.{steps_overdue, steps_frame, steps_first, steps_quiet}
+use Rattle.std.proofs.Common.{rules, tests, ◌≡◌, sym, ap, ◌∙◌}
+use Rattle.std.specs.List.{position}
+use Rattle.std.proofs.lemmas.Iterator.{YieldsList-from_slice}
+use Rattle.std.proofs.lemmas.Iterator.Search.{position_from_yields_List}
+use Rattle.endpoint.specs.Endpoint.{rows_of}
+use Rattle.decisions_poll.proofs.Stepped.{overdue, flying, waits, steps_overdue, steps_frame, steps_first, steps_quiet}
+use Rattle.decisions_poll.proofs.next_step.Goals.{After-position, After-position-2, After-position-3}
 use Rattle.decisions_poll.proofs.next_step.Goals as goal
 
--- the rows that the searches answer
-pub returns-then-overdue-count : goal.returns-then-overdue-count
-returns-then-overdue-count c =
-    let overdue : Searched c.args.live (Overdue c.args.clock) c.oldest_overdue-overdue.result = record { full = c.well_formed.0.1.1.0.1.0.1; few = c.requires; is = c.oldest_overdue-overdue.ensures } in
-    steps_overdue overdue (omega arith)
+-- what the three searches answer
+overdue_at : (c : After-position) → c.position.result ≡ position (overdue c.args.clock) (rows_of c.args.live)
+overdue_at c =
+    position_from_yields_List (overdue c.args.clock) _ _ c.position.result c.position.ensures.ran (YieldsList-from_slice _ c.iter.ensures.rest)
+    (λ x b q k. search (rules, tests))
+    ∙ ap (position (overdue c.args.clock)) c.in_use-rows.ensures
 
-pub returns-then-flying-count : goal.returns-then-flying-count
-returns-then-flying-count c =
-    let overdue : Searched c.args.live (Overdue c.args.clock) c.oldest_overdue-overdue.result = record { full = c.well_formed.0.1.1.0.1.0.1; few = c.requires; is = c.oldest_overdue-overdue.ensures } in
-    let flying : Searched c.args.live Flying c.oldest_flying-flying.result = record { full = c.well_formed.0.1.1.0.1.0.1; few = c.requires; is = c.oldest_flying-flying.ensures } in
-    steps_frame overdue (omega arith) flying (omega arith) c.frame_step.result
-    c.frame_step.ensures
+flying_at : (c : After-position-2) → c.position-2.result ≡ position flying (rows_of c.args.live)
+flying_at c =
+    position_from_yields_List flying _ _ c.position-2.result c.position-2.ensures.ran (YieldsList-from_slice _ c.iter-2.ensures.rest)
+    (λ x b q k. search (rules, tests))
+    ∙ ap (position flying) c.in_use-rows.ensures
 
-pub returns-then-queued-count : goal.returns-then-queued-count
-returns-then-queued-count c =
-    let overdue : Searched c.args.live (Overdue c.args.clock) c.oldest_overdue-overdue.result = record { full = c.well_formed.0.1.1.0.1.0.1; few = c.requires; is = c.oldest_overdue-overdue.ensures } in
-    let flying : Searched c.args.live Flying c.oldest_flying-flying.result = record { full = c.well_formed.0.1.1.0.1.0.1; few = c.requires; is = c.oldest_flying-flying.ensures } in
-    let queued : Searched c.args.live Queued c.oldest_queued-queued.result = record { full = c.well_formed.0.1.1.0.1.0.1; few = c.requires; is = c.oldest_queued-queued.ensures } in
-    steps_first overdue (omega arith) flying (omega arith) queued (omega arith)
+queued_at : (c : After-position-3) → c.position-3.result ≡ position waits (rows_of c.args.live)
+queued_at c =
+    position_from_yields_List waits _ _ c.position-3.result c.position-3.ensures.ran (YieldsList-from_slice _ c.iter-3.ensures.rest)
+    (λ x b q k. search (rules, tests))
+    ∙ ap (position waits) c.in_use-rows.ensures
+
+pub returns-in-Some : goal.returns-in-Some
+returns-in-Some c =
+    let at = goal.at.returns-in-Some c in
+    steps_overdue c.args.live c.args.clock c.in-Some.overdue (sym (overdue_at at.After-position) ∙ c.in-Some.is)
+
+pub returns-in-Some-position : goal.returns-in-Some-position
+returns-in-Some-position c =
+    let at = goal.at.returns-in-Some-position c in
+    steps_frame c.args.live c.args.clock c.in-Some-position.flying
+    (sym (overdue_at at.After-position) ∙ c.in_default.is)
+    (sym (flying_at at.After-position-2) ∙ c.in-Some-position.is)
+    c.frame_step.result
+    (rw c.in_use-rows.ensures at c.frame_step.ensures)
+
+pub returns-in-Some-position-2 : goal.returns-in-Some-position-2
+returns-in-Some-position-2 c =
+    let at = goal.at.returns-in-Some-position-2 c in
+    steps_first c.args.live c.args.clock c.in-Some-position-2.queued
+    (sym (overdue_at at.After-position) ∙ c.in_default.is)
+    (sym (flying_at at.After-position-2) ∙ c.in_default-position.is)
+    (sym (queued_at at.After-position-3) ∙ c.in-Some-position-2.is)
 
 pub returns : goal.returns
 returns c =
-    let overdue : Searched c.args.live (Overdue c.args.clock) c.oldest_overdue-overdue.result = record { full = c.well_formed.0.1.1.0.1.0.1; few = c.requires; is = c.oldest_overdue-overdue.ensures } in
-    let flying : Searched c.args.live Flying c.oldest_flying-flying.result = record { full = c.well_formed.0.1.1.0.1.0.1; few = c.requires; is = c.oldest_flying-flying.ensures } in
-    let queued : Searched c.args.live Queued c.oldest_queued-queued.result = record { full = c.well_formed.0.1.1.0.1.0.1; few = c.requires; is = c.oldest_queued-queued.ensures } in
-    steps_quiet overdue (omega arith) flying (omega arith) queued (omega arith)
+    let at = goal.at.returns c in
+    steps_quiet c.args.live c.args.clock 0
+    (sym (overdue_at at.After-position) ∙ c.in_default.is)
+    (sym (flying_at at.After-position-2) ∙ c.in_default-position.is)
+    (sym (queued_at at.After-position-3) ∙ c.in_default-position-2.is)

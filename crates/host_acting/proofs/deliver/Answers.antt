@@ -4,9 +4,6 @@ use lib.ListN.{length-drop}
 use Rattle.command.specs.Payload.{head_length}
 use Rattle.host_acting.proofs.deliver.Goals as goal
 
-pub judge-verdict-requires : goal.judge-verdict-requires
-judge-verdict-requires c = c.requires.0
-
 pub hand_over-requires : goal.hand_over-requires
 hand_over-requires c =
     let body = c.payload-body in

@@ -1,12 +1,8 @@
 -- `host_polling::accept` meets its contract: the step that was decided is carried out.
 use Rattle.link.specs.Promises.{frame_of}
 use Rattle.decisions_poll.specs.declared.Step.TheVariants.{End, Again, First, Quiet}
-use Rattle.refinement.proofs.Sound.{few_of}
 use Rattle.host_sending.proofs.Stepping.{stepped, reached, first_sent_law}
 use Rattle.host_polling.proofs.accept.Goals as goal
-
-pub next_step-step-requires : goal.next_step-step-requires
-next_step-step-requires c = few_of c.args.e c.requires.0.0.sound
 
 pub end-requires : goal.end-requires
 end-requires c = (

@@ -1,5 +1,5 @@
 -- `live_changes::without` meets its contract. The invariant: without the request in row i, the live requests are those that stay.
-use Prim.Native.Nat.{◌+◌, ◌-◌}
+use Prim.Native.Nat.{◌+◌}
 use mathlib.Core.Path.{refl}
 use native.Mathlib.Omega.{arith}
 use Rattle.live_changes.proofs.Becoming.{len_at, none_moved, one_moved, all_moved}

@@ -1,26 +1,32 @@
 -- `live_ids::first_free` meets its contract. The loop's invariant: the first free ID from here on, with so many still to pass over,
--- is the one that is looked for. The measure is how many those are.
-use mathlib.Core.Path.{refl, sym, ◌∙◌}
+-- is the one that is looked for.
+use Prim.Native.Nat.{ℕ, ◌+◌, ◌-◌}
+use mathlib.Core.Path.{◌≡◌, sym, ap, ◌∙◌}
 use native.Mathlib.Omega.{arith}
+use lib.ListN.{length}
+use Rattle.ledger.specs.Submitting.{first_free}
+use Rattle.endpoint.specs.Malformed.{bare_of}
 use Rattle.live_ids.proofs.FirstFree.{free_here, free_on, free_end}
 use Rattle.live_ids.proofs.first_free.Goals as goal
 
-pub loop-left-init : goal.loop-left-init
-loop-left-init c = (omega arith, refl)
+pub loop-init : goal.loop-init
+loop-init c =
+    let a = c.args in
+    let whole : length a.rows.now - 0 ≡ length a.rows.now = omega arith in
+    ap (λ (n : ℕ). first_free n a.reserved (bare_of a.rows.now) a.from.0) whole
 
-pub returns-then-not-is_live : goal.returns-then-not-is_live
-returns-then-not-is_live c =
-    let turn = c.loop-left in
-    sym (free_here _ _ turn.id.0 turn.left (sym c.is_live.ensures ∙ c.if-not-is_live.true)) ∙ turn.invariant.1
+pub returns-then-not-is_among : goal.returns-then-not-is_among
+returns-then-not-is_among c =
+    let turn = c.loop in
+    sym (free_here _ _ turn.id.0 (length c.args.rows.now - turn.index) (sym c.is_among.ensures ∙ c.if-not-is_among.true)) ∙ turn.invariant
 
-pub loop-left-preserved : goal.loop-left-preserved
-loop-left-preserved c =
-    let turn = c.loop-left in (
-      omega arith,
-      rw c.id_after-id.ensures
-          (sym (free_on _ _ turn.id.0 turn.left (omega arith) (sym c.is_live.ensures ∙ c.if-not-is_live.false))
-          ∙ turn.invariant.1),
-    )
+pub loop-preserved : goal.loop-preserved
+loop-preserved c =
+    let turn = c.loop in
+    let left = length c.args.rows.now - turn.index in
+    let one_less : length c.args.rows.now - (turn.index + 1) ≡ left - 1 = omega arith in
+    rw (c.id_after-id.ensures, one_less)
+    (sym (free_on _ _ turn.id.0 left (omega arith) (sym c.is_among.ensures ∙ c.if-not-is_among.false)) ∙ turn.invariant)
 
 pub returns : goal.returns
-returns c = let turn = c.loop-left in sym (free_end _ _ turn.id.0 turn.left (omega arith)) ∙ turn.invariant.1
+returns c = let turn = c.loop in sym (free_end _ _ turn.id.0 (length c.args.rows.now - turn.index) (omega arith)) ∙ turn.invariant

@@ -1,29 +1,12 @@
--- `malformed_rule::in_flight` meets its contract: what was counted and the flights of the rows left make all flights.
-use Prim.Native.Nat.{◌-◌}
-use native.Mathlib.Omega.{arith}
-use Rattle.endpoint.proofs.Scans.{flights_none}
+-- `malformed_rule::in_flight` meets its contract: the rows that were counted are those in flight.
+use Rattle.std.proofs.Common.{rules, tests, ◌∙◌}
+use Rattle.std.proofs.lemmas.Iterator.{YieldsList-from_slice}
+use Rattle.std.proofs.lemmas.Iterator.Consumers.{YieldsList-from_filter, count_from_yields_List}
+use Rattle.malformed_rule.proofs.Scans.{flies, flights_filter}
 use Rattle.malformed_rule.proofs.in_flight.Goals as goal
-
-pub loop-i-init : goal.loop-i-init
-loop-i-init c = (omega arith, omega arith, omega arith)
-
-pub flies_at-flying-requires : goal.flies_at-flying-requires
-flies_at-flying-requires c = c.requires
-
-pub overflow_add-flying : goal.overflow_add-flying
-overflow_add-flying c = let once = c.flies_at-flying.ensures.0 in omega arith
-
-pub loop-i-preserved : goal.loop-i-preserved
-loop-i-preserved c =
-    let l = c.loop-i in
-    let once = c.flies_at-flying.ensures.0 in
-    let next = c.flies_at-flying.ensures.1 in
-    let sum = l.invariant.2 in
-    (omega arith, omega arith, omega arith)
 
 pub returns : goal.returns
 returns c =
-    let l = c.loop-i in
-    let none = flights_none c.args.live c.well_formed.0.1.1.0.1.0.1 c.requires l.i (omega arith) in
-    let sum = l.invariant.2 in
-    omega arith
+    count_from_yields_List c.filter.result c.count.result c.count.ensures.ran
+    (YieldsList-from_filter _ (λ q. flies q.state) (YieldsList-from_slice c.args.rows.now cc) c.filter.ensures.closure (λ x b q k. search (rules, tests)))
+    ∙ flights_filter c.args.rows.now
