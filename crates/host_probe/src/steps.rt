@@ -2,8 +2,8 @@
 use command::{Fields, MAX_DATA};
 use endpoint::{Endpoint, STORE_LENGTH};
 use host::{open, poll, receive, submit};
-use host_answers::{Ended, PollAnswer, Polled, Receipt, ReceiveAnswer, SubmitAnswer};
-use ledger::Word;
+use host_answers::{PollAnswer, PollOutcome, Polled, Receipt, SubmitAnswer};
+use ledger::{Ending, Word};
 use line::Answer;
 use message::header::{MAX_LEN, OVERHEAD};
 
@@ -69,8 +69,8 @@ fn submit_one(tally: Tally, store: &mut [u8; STORE_LENGTH]) -> Tally {
 
 fn submit_number(answer: SubmitAnswer) -> u64 {
     match answer {
-        SubmitAnswer::Refused(number) => number as u64,
-        SubmitAnswer::Submitted(id) => id.0 as u64,
+        Ok(id) => id.0 as u64,
+        Err(refusal) => refusal.number() as u64,
     }
 }
 
@@ -107,11 +107,11 @@ pub(crate) fn with_poll(sum: u64, answer: PollAnswer, output: &[u8; OUTPUT_LENGT
 
 fn poll_number(answer: PollAnswer) -> u64 {
     match answer {
-        PollAnswer::Refused(number) => number as u64,
-        PollAnswer::Sent(len) => len as u64,
-        PollAnswer::Ended(ending) => ending.id.0 as u64,
-        PollAnswer::Quiet(ms) => ms,
-        PollAnswer::NoDeadline => 0,
+        Ok(PollOutcome::Sent(len)) => len as u64,
+        Ok(PollOutcome::Ended(ending)) => ending.id.0 as u64,
+        Ok(PollOutcome::Quiet(Some(ms))) => ms,
+        Ok(PollOutcome::Quiet(None)) => 0,
+        Err(refusal) => refusal.number() as u64,
     }
 }
 
@@ -171,7 +171,7 @@ fn receive_one(
     let answer = done.answer;
     let endpoint = done.endpoint;
     let seen = wide(reply[6]) ^ (wide(buffer[0]) << 8);
-    let ReceiveAnswer::Received(receipt) = answer else {
+    let Ok(receipt) = answer else {
         let tally = Tally {
             endpoint,
             sum: tally.sum,
@@ -208,10 +208,10 @@ fn receipt_number(receipt: Receipt) -> u64 {
         ^ (ending_number(ending) << 44)
 }
 
-fn ending_number(ending: Ended) -> u64 {
+fn ending_number(ending: Option<Ending>) -> u64 {
     match ending {
-        Ended::Nobody => 0,
-        Ended::One(it) => it.id.0 as u64,
+        None => 0,
+        Some(it) => it.id.0 as u64,
     }
 }
 

@@ -6,6 +6,7 @@ use mathlib.Core.Path.{◌≡◌, refl, sym, ap, ◌∙◌}
 use lib.Dec.{ltb}
 use lib.ListN.{length, get_or}
 use borrow.Author.Tests.{ltb-false}
+use Rattle.std.specs.Prelude.{Some, None, Ok}
 use Rattle.message.specs.Bytes.{total, max_len}
 use Rattle.message.specs.declared.Seq.{Seq}
 use Rattle.link.specs.Frames as link
@@ -40,7 +41,7 @@ use Rattle.refinement.proofs.Sound.{held_of, fits_of}
 use Rattle.host_answers.specs.Promises.{Result, poll_result}
 use Rattle.refusals.specs.Code.{with_endpoint}
 use Rattle.host_answers.specs.Code.{Sound, Does}
-use Rattle.host_answers.specs.declared.PollAnswer.TheVariants as answer
+use Rattle.host_answers.specs.declared.PollOutcome.TheVariants as outcome
 use Rattle.host_answers.proofs.Held.{placed_none, held_same}
 use Rattle.refusals.proofs.Table.{passed, own_passed}
 
@@ -51,77 +52,73 @@ polled_endpoint e live seq clock =
 
 module _ (e : Endpoint) (clock : ℕ) (store : List ℕ) (ready : Sound e clock) where
   -- a request ends
-  pub ended : (row : ℕ) (cause : Cause) (live : Requests) (after : Endpoint) (exit output : List ℕ)
+  pub ended : (row : ℕ) (cause : Cause) (live : Requests) (exit output : List ℕ)
       → length e.live.rows ≡ live_max → row < e.live.count
       → Becomes live (changed (End row cause) (live_of e.live store)) store exit
-      → after ≡ polled_endpoint e live e.seq clock
       → Does (polled_as (ledger_of e store) (step_of (step.End row cause) (ledger_of e store) clock) output clock)
       (poll_result (record {
-        answer = answer.Ended (record { id = (get_or e.live.rows row blank_row).id; cause = cause });
-        endpoint = after;
+        answer = Ok (outcome.Ended (record { id = (get_or e.live.rows row blank_row).id; cause = cause }));
+        endpoint = polled_endpoint e live e.seq clock;
       }) exit output)
-  ended row cause live after exit output three less becomes back =
+  ended row cause live exit output three less becomes =
       let held = held_same e.held store exit (held_of e ready.sound) becomes.holds in
       let it = live_at e.live three (fits_of e ready.sound) store row less in
-      rw back (record {
+      record {
         answers = rw it;
         leaves = rw (placed_none output);
         next = rw (becomes.lists, held);
         fits = becomes.fits;
         holds = held_of e ready.sound;
-      })
+      }
 
   -- a frame goes out
-  pub sent : (row : ℕ) (frame : Frame) (next : Seq) (count : ℕ) (live : Requests) (after : Endpoint) (exit output output_exit : List ℕ)
+  pub sent : (row : ℕ) (frame : Frame) (next : Seq) (count : ℕ) (live : Requests) (exit output output_exit : List ℕ)
       → Put count (frame_bytes (at row (live_of e.live store)) frame.seq.0) output output_exit
       → Becomes live (changed (Turn row (InFlight frame)) (live_of e.live store)) store exit
-      → after ≡ polled_endpoint e live next clock
       → Does (polled_as (ledger_of e store) (sent_from (ledger_of e store) clock (frame_of frame) next.0 row) output clock)
-      (poll_result (record { answer = answer.Sent count; endpoint = after }) exit output_exit)
-  sent row frame next count live after exit output output_exit put becomes back =
+      (poll_result (record { answer = Ok (outcome.Sent count); endpoint = polled_endpoint e live next clock }) exit output_exit)
+  sent row frame next count live exit output output_exit put becomes =
       let held = held_same e.held store exit (held_of e ready.sound) becomes.holds in
-      rw back (record {
+      record {
         answers = rw put.counts;
         leaves = rw put.leaves;
         next = rw (becomes.lists, held);
         fits = becomes.fits;
         holds = held_of e ready.sound;
-      })
+      }
 
   -- nothing is due
   rests : (time : Time) → time_of time ≡ left_of clock (earliest (bare_of (rows_of e.live)))
       → time_of time ≡ map (◌- clock) (earliest (live_of e.live store))
   rests time left = left ∙ ap (left_of clock) (sym (earliest_rows (rows_of e.live) 0 store))
 
-  pub quiet_in : (time : Time) (ms : ℕ) (after : Endpoint) (output : List ℕ)
+  pub quiet_in : (time : Time) (ms : ℕ) (output : List ℕ)
       → time_of time ≡ left_of clock (earliest (bare_of (rows_of e.live))) → time ≡ In ms
-      → after ≡ polled_endpoint e e.live e.seq clock
       → Does (polled_as (ledger_of e store) (step4 (ledger_of e store) clock) output clock)
-      (poll_result (record { answer = answer.Quiet ms; endpoint = after }) store output)
-  quiet_in time ms after output left told back =
+      (poll_result (record { answer = Ok (outcome.Quiet (Some ms)); endpoint = polled_endpoint e e.live e.seq clock }) store output)
+  quiet_in time ms output left told =
       let some-ms : some ms ≡ map (◌- clock) (earliest (live_of e.live store)) = ap time_of (sym told) ∙ rests time left in
-      rw back (record {
+      record {
         answers = ap (λ (t : Option ℕ). polled (quiet t)) some-ms;
         leaves = rw (placed_none output);
         next = refl;
         fits = fits_of e ready.sound;
         holds = held_of e ready.sound;
-      })
+      }
 
-  pub quiet_never : (time : Time) (after : Endpoint) (output : List ℕ)
+  pub quiet_never : (time : Time) (output : List ℕ)
       → time_of time ≡ left_of clock (earliest (bare_of (rows_of e.live))) → time ≡ Never
-      → after ≡ polled_endpoint e e.live e.seq clock
       → Does (polled_as (ledger_of e store) (step4 (ledger_of e store) clock) output clock)
-      (poll_result (record { answer = answer.NoDeadline; endpoint = after }) store output)
-  quiet_never time after output left told back =
+      (poll_result (record { answer = Ok (outcome.Quiet None); endpoint = polled_endpoint e e.live e.seq clock }) store output)
+  quiet_never time output left told =
       let none_left : none ≡ map (◌- clock) (earliest (live_of e.live store)) = ap time_of (sym told) ∙ rests time left in
-      rw back (record {
+      record {
         answers = ap (λ (t : Option ℕ). polled (quiet t)) none_left;
         leaves = rw (placed_none output);
         next = refl;
         fits = fits_of e ready.sound;
         holds = held_of e ready.sound;
-      })
+      }
 
 -- the step that was decided is what the ledger's poll does
 pub stepped : (e : Endpoint) (clock : ℕ) (store output : List ℕ) (s told : Step) (o : Result) → Steps s e.live clock → s ≡ told

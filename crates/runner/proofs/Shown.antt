@@ -7,12 +7,11 @@ use native.Mathlib.Omega.{arith}
 use lib.ListN.{length, take, drop, get_or, length-take}
 use borrow.Author.Tests.{eq-eqb, ne_eqb}
 use Rattle.message.proofs.Buffer.{lent_from, tail}
-use Rattle.host_answers.specs.declared.PollAnswer.{PollAnswer}
-use Rattle.host_answers.specs.declared.ReceiveAnswer.{ReceiveAnswer}
 use Rattle.script.specs.Limits.{lent_max}
 use Rattle.texts.proofs.Putting.{behind, wider}
 use Rattle.transcript.specs.Lines.{receive_text, poll_text, end_text, receive_room, poll_room, end_room}
 use Rattle.texts.specs.Text.{Puts}
+use Rattle.host_answers.specs.Answers.{ReceiveAnswer, PollAnswer}
 use Rattle.lent_lengths.specs.Lengths.{reply_length, data_length, frame_length}
 use Rattle.runner.specs.Lent.{fill, touched, receive_line, poll_line}
 use Rattle.runner.specs.Room.{line_room}

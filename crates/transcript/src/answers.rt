@@ -6,7 +6,7 @@ ghost use Rattle.transcript.specs.Lines.{open_text, submit_text, judged_text, re
 ghost use Rattle.transcript.specs.Lines.{open_room, submit_room, judged_room, receive_room, poll_room, end_room};
 
 use crate::parts::{put_ended, put_item, put_lent, put_word};
-use host_answers::{OpenAnswer, PollAnswer, Receipt, ReceiveAnswer, SubmitAnswer};
+use host_answers::{OpenAnswer, PollAnswer, PollOutcome, Receipt, ReceiveAnswer, SubmitAnswer};
 use ledger::Word;
 use line::Answer;
 use texts::{put, put_named};
@@ -18,8 +18,8 @@ pub fn put_opened(out: &mut [u8], at: usize, answer: OpenAnswer) -> usize
     ensures { Puts open_room at (open_text answer) out.old out.new result }
 {
     match answer {
-        OpenAnswer::Refused(number) => put_named(out, at, b"open refused ", number as u64),
-        OpenAnswer::Opened => put(out, at, b"opened"),
+        Ok(()) => put(out, at, b"opened"),
+        Err(refusal) => put_named(out, at, b"open refused ", refusal.number() as u64),
     }
 }
 
@@ -29,8 +29,8 @@ pub fn put_submitted(out: &mut [u8], at: usize, answer: SubmitAnswer) -> usize
     ensures { Puts submit_room at (submit_text answer) out.old out.new result }
 {
     match answer {
-        SubmitAnswer::Refused(number) => put_named(out, at, b"submit refused ", number as u64),
-        SubmitAnswer::Submitted(id) => put_named(out, at, b"submitted ", id.0 as u64),
+        Ok(id) => put_named(out, at, b"submitted ", id.0 as u64),
+        Err(refusal) => put_named(out, at, b"submit refused ", refusal.number() as u64),
     }
 }
 
@@ -47,8 +47,8 @@ pub fn put_received(
         (receive_text answer reply.now handed.now) out.old out.new result }
 {
     match answer {
-        ReceiveAnswer::Refused(number) => put_named(out, at, b"receive refused ", number as u64),
-        ReceiveAnswer::Received(receipt) => put_receipt(out, at, receipt, reply, handed),
+        Ok(receipt) => put_receipt(out, at, receipt, reply, handed),
+        Err(refusal) => put_named(out, at, b"receive refused ", refusal.number() as u64),
     }
 }
 
@@ -83,11 +83,11 @@ pub fn put_polled(out: &mut [u8], at: usize, answer: PollAnswer, frame: &[u8]) -
         (poll_text answer frame.now) out.old out.new result }
 {
     match answer {
-        PollAnswer::Refused(number) => put_named(out, at, b"poll refused ", number as u64),
-        PollAnswer::Sent(len) => put_lent(out, at, b"sent ", len, frame),
-        PollAnswer::Ended(ending) => put_ending(out, at, ending),
-        PollAnswer::Quiet(ms) => put_named(out, at, b"quiet ", ms),
-        PollAnswer::NoDeadline => put(out, at, b"no-deadline"),
+        Ok(PollOutcome::Sent(len)) => put_lent(out, at, b"sent ", len, frame),
+        Ok(PollOutcome::Ended(ending)) => put_ending(out, at, ending),
+        Ok(PollOutcome::Quiet(Some(ms))) => put_named(out, at, b"quiet ", ms),
+        Ok(PollOutcome::Quiet(None)) => put(out, at, b"no-deadline"),
+        Err(refusal) => put_named(out, at, b"poll refused ", refusal.number() as u64),
     }
 }
 

@@ -4,8 +4,7 @@ ghost use Rattle.texts.specs.Text.{Puts};
 ghost use Rattle.transcript.specs.Lines.{one_text, item_text, command_text, word_text, lent_text, ended_text};
 ghost use Rattle.transcript.specs.Lines.{item_room, command_room, word_room, lent_room, ended_room};
 
-use host_answers::Ended;
-use ledger::{Command, Word};
+use ledger::{Command, Ending, Word};
 use line::Answer;
 use message::{Item, Seq};
 use texts::{put, put_bytes, put_named, put_spaced};
@@ -85,13 +84,13 @@ pub(crate) fn put_lent(out: &mut [u8], at: usize, name: &[u8], len: usize, shown
 }
 
 // The ending that a receive reports, if any.
-pub(crate) fn put_ended(out: &mut [u8], at: usize, ended: Ended) -> usize
+pub(crate) fn put_ended(out: &mut [u8], at: usize, ended: Option<Ending>) -> usize
     requires { at + ended_room ≤ length out.old }
     ensures { Puts ended_room at (ended_text ended) out.old out.new result }
 {
     match ended {
-        Ended::Nobody => put(out, at, b" no-ending"),
-        Ended::One(ending) => {
+        None => put(out, at, b" no-ending"),
+        Some(ending) => {
             let end = put(out, at, b" ");
             put_ending(out, end, ending)
         }

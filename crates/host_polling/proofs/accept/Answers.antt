@@ -6,7 +6,7 @@ use Rattle.host_sending.proofs.Stepping.{stepped, reached, first_sent_law}
 use Rattle.host_polling.proofs.accept.Goals as goal
 
 pub next_step-step-requires : goal.next_step-step-requires
-next_step-step-requires c = few_of c.args.e c.requires.0.0.sound
+next_step-step-requires c = few_of c.args.e c.requires.0.sound
 
 pub end-requires : goal.end-requires
 end-requires c = (

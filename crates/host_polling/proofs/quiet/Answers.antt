@@ -12,12 +12,12 @@ pub returns-in-In : goal.returns-in-In
 returns-in-In c =
     let a = c.args in
     λ store output.
-    quiet_in a.e a.clock store c.requires c.time_left-time.result c.in-In.ms c.after-endpoint.result output
-    c.time_left-time.ensures c.in-In.is c.after-endpoint.ensures
+    quiet_in a.e a.clock store c.requires c.time_left-time.result c.in-In.ms output
+    c.time_left-time.ensures c.in-In.is
 
 pub returns-in-Never : goal.returns-in-Never
 returns-in-Never c =
     let a = c.args in
     λ store output.
-    quiet_never a.e a.clock store c.requires c.time_left-time.result c.after-endpoint.result output c.time_left-time.ensures
-    c.in-Never.is c.after-endpoint.ensures
+    quiet_never a.e a.clock store c.requires c.time_left-time.result output c.time_left-time.ensures
+    c.in-Never.is

@@ -4,10 +4,10 @@ use Rattle.transcript.specs.Lines.{open_text}
 use Rattle.texts.proofs.Putting.{wider}
 use Rattle.transcript.proofs.answers.put_opened.Goals as goal
 
-pub returns-in-Refused : goal.returns-in-Refused
+pub returns-in-Err : goal.returns-in-Err
 unfolding open_text
-returns-in-Refused c = rw c.in-Refused.is (wider (omega arith) c.put_named.ensures)
+returns-in-Err c = rw c.in-Err.is (wider (omega arith) (rw c.number.ensures at c.put_named.ensures))
 
-pub returns-in-Opened : goal.returns-in-Opened
+pub returns-in-Ok : goal.returns-in-Ok
 unfolding open_text
-returns-in-Opened c = rw c.in-Opened.is (wider (omega arith) c.put.ensures)
+returns-in-Ok c = rw c.in-Ok.is (wider (omega arith) c.put.ensures)

@@ -4,22 +4,30 @@ use Rattle.transcript.specs.Lines.{poll_text}
 use Rattle.texts.proofs.Putting.{wider}
 use Rattle.transcript.proofs.answers.put_polled.Goals as goal
 
-pub returns-in-Refused : goal.returns-in-Refused
+pub returns-in-Ok-Sent : goal.returns-in-Ok-Sent
 unfolding poll_text
-returns-in-Refused c = rw c.in-Refused.is (wider (omega arith) c.put_named.ensures)
+returns-in-Ok-Sent c =
+    let told = c.in-Ok-Sent in rw (told.is, rw told.is at told.field-0-is) (wider (omega arith) c.put_lent.ensures)
 
-pub returns-in-Sent : goal.returns-in-Sent
+pub returns-in-Ok-Ended : goal.returns-in-Ok-Ended
 unfolding poll_text
-returns-in-Sent c = rw c.in-Sent.is (wider (omega arith) c.put_lent.ensures)
+returns-in-Ok-Ended c =
+    let told = c.in-Ok-Ended in rw (told.is, rw told.is at told.field-0-is) (wider (omega arith) c.put_ending.ensures)
 
-pub returns-in-Ended : goal.returns-in-Ended
+pub returns-in-Ok-Quiet-Some : goal.returns-in-Ok-Quiet-Some
 unfolding poll_text
-returns-in-Ended c = rw c.in-Ended.is (wider (omega arith) c.put_ending.ensures)
+returns-in-Ok-Quiet-Some c =
+    let told = c.in-Ok-Quiet-Some in
+    let rests = rw told.is at told.field-0-is in
+    rw (told.is, rests, rw (told.is, rests) at told.field-0-0-is) (wider (omega arith) c.put_named.ensures)
 
-pub returns-in-Quiet : goal.returns-in-Quiet
+pub returns-in-Ok-Quiet-None : goal.returns-in-Ok-Quiet-None
 unfolding poll_text
-returns-in-Quiet c = rw c.in-Quiet.is (wider (omega arith) c.put_named-in-Quiet.ensures)
+returns-in-Ok-Quiet-None c =
+    let told = c.in-Ok-Quiet-None in
+    let rests = rw told.is at told.field-0-is in
+    rw (told.is, rests, rw (told.is, rests) at told.field-0-0-is) (wider (omega arith) c.put.ensures)
 
-pub returns-in-NoDeadline : goal.returns-in-NoDeadline
+pub returns-in-Err : goal.returns-in-Err
 unfolding poll_text
-returns-in-NoDeadline c = rw c.in-NoDeadline.is (wider (omega arith) c.put.ensures)
+returns-in-Err c = rw c.in-Err.is (wider (omega arith) (rw c.number.ensures at c.put_named-in-Err.ensures))

@@ -4,10 +4,10 @@ use Rattle.transcript.specs.Lines.{submit_text}
 use Rattle.texts.proofs.Putting.{wider}
 use Rattle.transcript.proofs.answers.put_submitted.Goals as goal
 
-pub returns-in-Refused : goal.returns-in-Refused
+pub returns-in-Err : goal.returns-in-Err
 unfolding submit_text
-returns-in-Refused c = rw c.in-Refused.is (wider (omega arith) c.put_named.ensures)
+returns-in-Err c = rw c.in-Err.is (wider (omega arith) (rw c.number.ensures at c.put_named-in-Err.ensures))
 
-pub returns-in-Submitted : goal.returns-in-Submitted
+pub returns-in-Ok : goal.returns-in-Ok
 unfolding submit_text
-returns-in-Submitted c = rw c.in-Submitted.is (wider (omega arith) c.put_named-in-Submitted.ensures)
+returns-in-Ok c = rw c.in-Ok.is (wider (omega arith) c.put_named.ensures)

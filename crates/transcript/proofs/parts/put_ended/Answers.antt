@@ -4,10 +4,10 @@ use Rattle.transcript.specs.Lines.{ended_text}
 use Rattle.texts.proofs.Putting.{wider, behind}
 use Rattle.transcript.proofs.parts.put_ended.Goals as goal
 
-pub returns-in-Nobody : goal.returns-in-Nobody
+pub returns-in-None : goal.returns-in-None
 unfolding ended_text
-returns-in-Nobody c = rw c.in-Nobody.is (wider (omega arith) c.put.ensures)
+returns-in-None c = rw c.in-None.is (wider (omega arith) c.put.ensures)
 
-pub returns-in-One : goal.returns-in-One
+pub returns-in-Some : goal.returns-in-Some
 unfolding ended_text
-returns-in-One c = rw c.in-One.is (behind c.put-end.ensures c.put_ending.ensures)
+returns-in-Some c = rw c.in-Some.is (behind c.put-end.ensures c.put_ending.ensures)
