@@ -4,7 +4,7 @@
 use command::RequestId;
 use endpoint::Endpoint;
 use ledger::{Ending, Refusal, Word};
-use line::Answer;
+use message::Item;
 
 // Open: that it is done, or the refusal.
 pub type OpenAnswer = Result<(), Refusal>;
@@ -24,10 +24,10 @@ pub struct Submitted {
     pub endpoint: Endpoint,
 }
 
-// What an accepted receive answers: the item or *more*, the word, the bytes taken, the reply's length and the ending, if any.
+// What an accepted receive answers: the item, or `None` for *more*, the word, the bytes taken, the reply's length and the ending, if any.
 #[derive(Clone, Copy)]
 pub struct Receipt {
-    pub item: Answer,
+    pub item: Option<Item>,
     pub word: Word,
     pub taken: usize,
     pub replied: usize,

@@ -7,15 +7,14 @@ use mathlib.Core.List.{List, [], ◌∷◌, ◌++◌, map}
 use mathlib.Core.Option.{none, some}
 use mathlib.Core.Path.{◌≡◌, refl}
 use lib.ListN.{take, drop}
-use Rattle.std.specs.Prelude.{Some, None, Ok, Err}
+use Rattle.std.specs.Prelude.{Option, Some, None, Ok, Err}
 use Rattle.checksum.specs.Checksum.{with_bit, with_bits, bits_of, checksum_from, checksum_of}
 use Rattle.message.specs.Bytes.{total, max_len, ack, le16, fields, header, body, message, allowed}
 use Rattle.message.specs.Items.{stands, dropped, rules, scan}
 use Rattle.message.specs.Writing.{placed}
+use Rattle.message.specs.declared.Item.{Item}
 use Rattle.message.specs.declared.Item.TheVariants.{Message}
 use Rattle.line.specs.Receiving as line
-use Rattle.line.specs.declared.Answer.TheVariants.{More, One}
-use Rattle.line.specs.declared.Answer as item
 use Rattle.command.specs.Payload.{max_data, payload}
 use Rattle.command.specs.Promises.{fields_of}
 use Rattle.command.specs.declared.Fields.{Fields}
@@ -223,7 +222,7 @@ unfolding computed
 rests_later store = record { promised = record { answers = refl; leaves = refl; next = refl; sound = refl } }
 
 -- the receives: neither earns a word, puts a reply or ends a request
-abbrev hearing : item.Answer → (taken : ℕ) → Endpoint → (store : List ℕ) → Result
+abbrev hearing : Option Item → (taken : ℕ) → Endpoint → (store : List ℕ) → Result
 hearing item taken e store =
     receive_result (record {
       answer = Ok (record { item = item; word = word.Nothing; taken = taken; replied = 0; ending = None });
@@ -232,13 +231,13 @@ hearing item taken e store =
 
 takes_4 : (store rest : List ℕ)
     → Made (in_flight 0) store (receive (take 4 case_3) (zeros (total 0)) (zeros max_data) 0)
-    (hearing More 4 (in_flight 4) (take 4 case_3 ++ rest))
+    (hearing None 4 (in_flight 4) (take 4 case_3 ++ rest))
 unfolding heard
 takes_4 store rest = record { promised = record { answers = refl; leaves = refl; next = refl; sound = refl } }
 
 takes_6 : (rest : List ℕ)
     → Made (in_flight 4) (take 4 case_3 ++ rest) (receive (drop 4 case_3) (zeros (total 0)) (zeros max_data) 0)
-    (hearing (One (Message ack (record { 0 = 0 }) 0)) 6 (waiting 0) (take 4 case_3 ++ rest))
+    (hearing (Some (Message ack (record { 0 = 0 }) 0)) 6 (waiting 0) (take 4 case_3 ++ rest))
 unfolding heard
 takes_6 rest = record { promised = record { answers = refl; leaves = refl; next = refl; sound = refl } }
 

@@ -4,7 +4,6 @@ use endpoint::{Endpoint, STORE_LENGTH};
 use host::{open, poll, receive, submit};
 use host_answers::{PollAnswer, PollOutcome, Polled, Receipt, SubmitAnswer};
 use ledger::{Ending, Word};
-use line::Answer;
 use message::header::{MAX_LEN, OVERHEAD};
 
 // The shortest buffers that no call refuses: a message without a payload, and the longest.
@@ -186,15 +185,8 @@ fn receive_one(
     let item = receipt.item;
     Took {
         tally: Tally { endpoint, sum },
-        over: is_more(item),
+        over: item.is_none(),
         taken: receipt.taken,
-    }
-}
-
-fn is_more(item: Answer) -> bool {
-    match item {
-        Answer::More => true,
-        Answer::One(_) => false,
     }
 }
 

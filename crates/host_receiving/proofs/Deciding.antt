@@ -7,6 +7,7 @@ use native.Mathlib.Omega.{arith}
 use denote.Enum.Declared.{tag_of}
 use types.Run.{OneOf}
 use lib.ListN.{length, take, drop, length-take}
+use Rattle.std.specs.Prelude.{Option, None, Some}
 use Rattle.message.specs.Bytes.{max_len}
 use Rattle.message.specs.Promises.{item_of}
 use Rattle.message.specs.Writing.{placed}
@@ -17,8 +18,6 @@ use Rattle.message.specs.contracts.Item.{the_type}
 use Rattle.line.specs.Receiving as line
 use Rattle.line.specs.Receiving.{held_max}
 use Rattle.line.specs.Promises.{answer_of, part_of}
-use Rattle.line.specs.declared.Answer.{Answer}
-use Rattle.line.specs.declared.Answer.TheVariants.{More, One}
 use Rattle.line.specs.declared.Place.{Place}
 use Rattle.line.specs.declared.Place.TheVariants.{Held, New}
 use Rattle.line.specs.declared.Decision.{Decision}
@@ -39,15 +38,15 @@ use Rattle.host_answers.specs.declared.Received.{Received}
 use Rattle.host_answers.proofs.Held.{placed_none}
 
 -- the payload of what the line answers is no longer than a message may be
-short_part : (a : Answer) (p : Place) (array new held bytes : List ℕ) → answer_of a ≡ (line.receive held bytes).answer
+short_part : (a : Option Item) (p : Place) (array new held bytes : List ℕ) → answer_of a ≡ (line.receive held bytes).answer
     → length (part_of a p array new) ≤ max_len
-short_part More p array new held bytes told = omega arith
-short_part (One DamagedHeader) p array new held bytes told = omega arith
-short_part (One Forbidden) p array new held bytes told = omega arith
-short_part (One DamagedPayload) p array new held bytes told = omega arith
-short_part (One (Message t q len)) (Held at) array new held bytes told =
+short_part None p array new held bytes told = omega arith
+short_part (Some DamagedHeader) p array new held bytes told = omega arith
+short_part (Some Forbidden) p array new held bytes told = omega arith
+short_part (Some DamagedPayload) p array new held bytes told = omega arith
+short_part (Some (Message t q len)) (Held at) array new held bytes told =
     let short = message_short held bytes (sym told) in omega (arith, length-take len (drop at array))
-short_part (One (Message t q len)) (New at) array new held bytes told =
+short_part (Some (Message t q len)) (New at) array new held bytes told =
     let short = message_short held bytes (sym told) in omega (arith, length-take len (drop at new))
 
 pub short_payload : (d : Decision) (held : ℕ) (new entry exit : List ℕ) → DecidesIn d held new entry exit
@@ -107,33 +106,33 @@ module _ (e : Endpoint) (d : Decision) (v : Verdict) (clock replied : ℕ) (r : 
       (acts entry new words (decided_part d middle new) reply buffer decided (sym put.counts)))
 
   -- the answer by another name
-  answered : (a : Answer) → d.answer ≡ a → act (ledger_of e entry) clock (answer_of d.answer) (decided_part d middle new)
+  answered : (a : Option Item) → d.answer ≡ a → act (ledger_of e entry) clock (answer_of d.answer) (decided_part d middle new)
       ≡ act (ledger_of e entry) clock (answer_of a) (decided_part d middle new)
-  answered a told = ap (λ (x : Answer). act (ledger_of e entry) clock (answer_of x) (decided_part d middle new)) told
+  answered a told = ap (λ (x : Option Item). act (ledger_of e entry) clock (answer_of x) (decided_part d middle new)) told
 
   -- nothing is put into the data buffer
   untouched : NoMore v e → placed 0 (bytes_for v.word (decided_part d middle new)) buffer ≡ buffer
   untouched h = rw h.word (placed_none buffer)
 
   -- *more*
-  pub on_more : replied ≡ 0 → d.answer ≡ More → NoMore v e
+  pub on_more : replied ≡ 0 → d.answer ≡ None → NoMore v e
       → Does (ledger.receive (ledger_of e entry) new reply buffer clock) (receive_result r exit reply buffer)
   on_more no-reply more h =
       same_act [] reply buffer (rw (more, h.word, h.change, h.seen))
       (record { counts = no-reply; leaves = sym (placed_none reply) }) (untouched h)
 
   -- an item that is no message
-  pub on_plain : (i : Item) (left : List ℕ) → d.answer ≡ One i → OneOf (0 ∷ 1 ∷ 2 ∷ []) (tag_of the_type i)
+  pub on_plain : (i : Item) (left : List ℕ) → d.answer ≡ Some i → OneOf (0 ∷ 1 ∷ 2 ∷ []) (tag_of the_type i)
       → NoMore v e → Put replied (reply_for (item_of i)) reply left
       → Does (ledger.receive (ledger_of e entry) new reply buffer clock) (receive_result r exit left buffer)
   on_plain i left one k h put =
-      same_act (reply_for (item_of i)) left buffer (answered (One i) one ∙ plain e clock v i (decided_part d middle new) entry h k) put
+      same_act (reply_for (item_of i)) left buffer (answered (Some i) one ∙ plain e clock v i (decided_part d middle new) entry h k) put
       (untouched h)
 
   -- a message
-  pub on_message_law : (t len : ℕ) (q : Seq) (left given : List ℕ) → d.answer ≡ One (Message t q len)
+  pub on_message_law : (t len : ℕ) (q : Seq) (left given : List ℕ) → d.answer ≡ Some (Message t q len)
       → Put replied (reply_to t q.0) reply left → Judges v e t q.0 (decided_part d middle new) clock
       → given ≡ placed 0 (bytes_for v.word (decided_part d middle new)) buffer
       → Does (ledger.receive (ledger_of e entry) new reply buffer clock) (receive_result r exit left given)
   on_message_law t len q left given one put judges gives =
-      same_act (reply_to t q.0) left given (answered (One (Message t q len)) one ∙ judges.acts entry) put (sym gives)
+      same_act (reply_to t q.0) left given (answered (Some (Message t q len)) one ∙ judges.acts entry) put (sym gives)

@@ -16,7 +16,7 @@ use host_acting::{act, decide_in, deliver};
 use host_answers::Received;
 use host_deliveries::put_reply;
 use ledger::Word;
-use line::{Answer, HELD_MAX};
+use line::HELD_MAX;
 use message::Item;
 use refusals::check_receive;
 
@@ -55,7 +55,7 @@ fn accept(
         buffer.old clock) (receive_result result store.new reply.new buffer.new) }
 {
     let decision = decide_in(store, e.held, bytes);
-    let Answer::One(item) = decision.answer else {
+    let Some(item) = decision.answer else {
         return act(e, store, decision, only(Word::Nothing, e.seen), 0, clock);
     };
     let replied = put_reply(reply, item);

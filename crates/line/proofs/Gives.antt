@@ -6,6 +6,7 @@ use native.Mathlib.Nat.{zero-add}
 use native.Mathlib.Omega.{arith}
 use lib.ListN.{length, take, drop, length-take, length-drop}
 use lib.Seq.{take-take, take_all}
+use Rattle.std.specs.Prelude.{None, Some}
 use Rattle.message.specs.Bytes.{header_length}
 use Rattle.message.specs.Items.{Scan, undecided, decided, dropped, len_in, type_in, scan, payload_of}
 use Rattle.message.specs.Promises.{item_of}
@@ -19,7 +20,6 @@ use Rattle.message.proofs.Headers.{allowed_short}
 use Rattle.message.proofs.Rules.{Applied, by_1, by_2, by_3, by_4, by_5, by_6, applied}
 use Rattle.line.specs.Promises.{Decides, part_of}
 use Rattle.line.specs.Receiving.{held_max, decides, taken, received_from, receive}
-use Rattle.line.specs.declared.Answer.TheVariants.{More, One}
 use Rattle.line.specs.declared.Place.TheVariants.{Held, New}
 use Rattle.line.specs.declared.Decision.{Decision}
 use Rattle.line.proofs.Moving.{drop_take}
@@ -43,7 +43,7 @@ undecided_left xs h =
 
 -- no item: what is left stands at the front
 pub gives_more : (d : Decision) (held new array : List ℕ) {e : ℕ} → scan (held ++ new) ≡ undecided e
-    → (d.answer ≡ More) × (d.taken ≡ length new) × (d.start ≡ 0) × (d.count ≡ length (drop e (held ++ new)))
+    → (d.answer ≡ None) × (d.taken ≡ length new) × (d.start ≡ 0) × (d.count ≡ length (drop e (held ++ new)))
     → take (length (drop e (held ++ new))) array ≡ drop e (held ++ new) → Decides d held new array
 unfolding payload_of
 gives_more d held new array {e} none said stands = record {
@@ -62,7 +62,7 @@ part (suc p) n (suc c) (x ∷ l) within = part p n c l (omega arith)
 -- an item of bytes that stand at the front
 module _ (array xs : List ℕ) (stands : take (length xs) array ≡ xs) where
   payload_in : (i : Item) (n r : ℕ) (new : List ℕ) → scan xs ≡ decided (item_of i) n r
-      → part_of (One i) (Held (n + header_length)) array new ≡ payload_of xs
+      → part_of (Some i) (Held (n + header_length)) array new ≡ payload_of xs
   unfolding payload_of
   payload_in DamagedHeader n r new h = rw h
   payload_in Forbidden n r new h = rw h
@@ -80,7 +80,7 @@ module _ (array xs : List ℕ) (stands : take (length xs) array ≡ xs) where
 
   pub gives_item : (d : Decision) (held new : List ℕ) (k : ℕ) (i : Item) (n r : ℕ) → receive held new ≡ received_from xs k
       → scan xs ≡ decided (item_of i) n r → length xs ≤ held_max
-      → (d.answer ≡ One i) × (d.taken ≡ k) × (d.start ≡ n + r) × (d.start + d.count ≡ length xs)
+      → (d.answer ≡ Some i) × (d.taken ≡ k) × (d.start ≡ n + r) × (d.start + d.count ≡ length xs)
       × (d.payload ≡ Held (n + header_length)) → Decides d held new array
   gives_item d held new k i n r got h within said = record {
     gives =
@@ -102,7 +102,7 @@ pub front_placed : (m l : List ℕ) → length m ≤ length l → take (length m
 front_placed m l fits = rw (zero-add (length m)) at (through_placed 0 m l (omega arith))
 
 payload_new : (i : Item) (n r k : ℕ) (new array : List ℕ) → scan (take k new) ≡ decided (item_of i) n r
-    → part_of (One i) (New (n + header_length)) array new ≡ payload_of (take k new)
+    → part_of (Some i) (New (n + header_length)) array new ≡ payload_of (take k new)
 unfolding payload_of
 payload_new DamagedHeader n r k new array h = rw h
 payload_new Forbidden n r k new array h = rw h
@@ -132,7 +132,7 @@ module _ (i : Item) (n r k : ℕ) (new : List ℕ) (h : scan new ≡ decided (it
       )
 
   pub gives_new : (d : Decision) (array : List ℕ)
-      → (d.answer ≡ One i) × (d.taken ≡ k) × (d.start ≡ 0) × (d.count ≡ length follows) × (d.payload ≡ New (n + header_length))
+      → (d.answer ≡ Some i) × (d.taken ≡ k) × (d.start ≡ 0) × (d.count ≡ length follows) × (d.payload ≡ New (n + header_length))
       → take (length follows) array ≡ follows → Decides d [] new array
   gives_new d array said stands =
       let e = ends in

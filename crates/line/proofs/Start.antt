@@ -8,6 +8,7 @@ use lib.Dec.{eqb, ltb}
 use lib.ListN.{length, take, drop, get_or, length-append, length-take, length-drop}
 use lib.Seq.{take-length, length-take-le, get_or-take}
 use borrow.Author.Tests.{eq-eqb, eqb-true, ltb-true, lt-ltb, not-true}
+use Rattle.std.specs.Prelude.{Some}
 use Rattle.message.specs.Bytes.{header_length, syn2}
 use Rattle.message.specs.Items.{Scan, undecided, decided, stands, dropped, scan, payload_of}
 use Rattle.message.specs.Promises.{item_of}
@@ -21,7 +22,6 @@ use Rattle.message.proofs.Rules.{Applied, by_1, by_2, by_3, by_4, by_5, by_6, ap
 use Rattle.line.specs.Code.{breaks}
 use Rattle.line.specs.Promises.{Decides, part_of}
 use Rattle.line.specs.Receiving.{held_max, receive}
-use Rattle.line.specs.declared.Answer.TheVariants.{One}
 use Rattle.line.specs.declared.Place.{Place}
 use Rattle.line.specs.declared.Decision.{Decision}
 use Rattle.line.proofs.Gives.{undecided_left, front_placed}
@@ -81,7 +81,7 @@ header_removes xs h size =
     (rw (length-drop (dropped xs) xs) (omega arith))
 
 no_payload : (i : Item) (xs : List ℕ) (n r : ℕ) → scan xs ≡ decided (item_of i) n r → length xs ≡ header_length
-    → (place : Place) (array new : List ℕ) → part_of (One i) place array new ≡ payload_of xs
+    → (place : Place) (array new : List ℕ) → part_of (Some i) place array new ≡ payload_of xs
 unfolding payload_of
 no_payload DamagedHeader xs n r h size place array new = rw h
 no_payload Forbidden xs n r h size place array new = rw h
@@ -121,7 +121,7 @@ module _ (kept : ℕ) (held new : List ℕ) (size : length held ≡ kept) (some 
 
     pub gives_header : (d : Decision) (i : Item) (n r : ℕ) (array exit : List ℕ) → breaks kept new ≡ false
         → scan whole ≡ decided (item_of i) n r → length array ≡ held_max → exit ≡ placed 0 (drop 2 whole) array
-        → (d.answer ≡ One i) × (d.taken ≡ missing) × (d.start ≡ 0) × (d.count ≡ 6) → Decides d held new exit
+        → (d.answer ≡ Some i) × (d.taken ≡ missing) × (d.start ≡ 0) × (d.count ≡ 6) → Decides d held new exit
     gives_header d i n r array exit wrong h full stands said =
         let two : r ≡ 2 = header_removes whole h size_whole in
         let w = reach_within whole h in

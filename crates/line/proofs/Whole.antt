@@ -7,6 +7,7 @@ use native.Mathlib.Omega.{arith}
 use lib.Dec.{eqb}
 use lib.ListN.{length, take, drop, get_or, length-append, length-drop, take-append-drop, drop_of_length-le, get_or-append}
 use lib.Seq.{take-add, take-append_seam, length-take-le, get_or-drop}
+use Rattle.std.specs.Prelude.{Some}
 use Rattle.checksum.specs.Checksum.{checksum_of}
 use Rattle.message.specs.Bytes.{header_length, total, from_le16}
 use Rattle.message.specs.Items.{Item, undecided, decided, type_in, len_in, seq_in, payload_in, payload_checksum_in, scan, payload_of}
@@ -18,7 +19,6 @@ use Rattle.message.proofs.Headers.{allowed_short}
 use Rattle.message.proofs.More.{len_more, type_more, seq_more}
 use Rattle.line.specs.Promises.{Decides}
 use Rattle.line.specs.Receiving.{held_max, received_from, receive}
-use Rattle.line.specs.declared.Answer.TheVariants.{One}
 use Rattle.line.specs.declared.Place.TheVariants.{Held}
 use Rattle.line.specs.declared.Decision.{Decision}
 use Rattle.line.proofs.Gives.{undecided_left}
@@ -123,7 +123,7 @@ module _ (kept : ℕ) (held new : List ℕ) (size : length held ≡ kept) (long 
 
     pub gives_message : (d : Decision) (t n : ℕ) (q : Seq) → eqb (payload_checksum_in ms) (checksum_of (payload_in ms)) ≡ true
         → (t ≡ get_or exit 0 0) × (q.0 ≡ get_or exit 3 0) × (n ≡ len_in there)
-        → (d.answer ≡ One (Message t q n)) × (d.taken ≡ need) × (d.start ≡ 0) × (d.count ≡ 0) × (d.payload ≡ Held 6)
+        → (d.answer ≡ Some (Message t q n)) × (d.taken ≡ need) × (d.start ≡ 0) × (d.count ≡ 0) × (d.payload ≡ Held 6)
         → Decides d held new exit
     unfolding payload_of
     gives_message d t n q good read said =
@@ -140,7 +140,7 @@ module _ (kept : ℕ) (held new : List ℕ) (size : length held ≡ kept) (long 
         }
 
     pub gives_damaged : (d : Decision) → eqb (payload_checksum_in ms) (checksum_of (payload_in ms)) ≡ false
-        → (d.answer ≡ One DamagedPayload) × (d.taken ≡ need) × (d.start ≡ 0) × (d.count ≡ kept + need - 2)
+        → (d.answer ≡ Some DamagedPayload) × (d.taken ≡ need) × (d.start ≡ 0) × (d.count ≡ kept + need - 2)
         → Decides d held new exit
     unfolding payload_of
     gives_damaged d bad said =

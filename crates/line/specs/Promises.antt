@@ -1,32 +1,31 @@
 -- The paper's values for each case of the enums that the code answers, and what the functions promise.
-use Rattle.std.specs.Prelude.{ℕ, ◌+◌, ◌≤◌, List, [], ◌≡◌, length, take, drop}
+use Rattle.std.specs.Prelude.{ℕ, ◌+◌, ◌≤◌, List, [], ◌≡◌, length, take, drop, Option, None, Some}
 use Rattle.message.specs.Promises.{item_of}
+use Rattle.message.specs.declared.Item.{Item}
 use Rattle.message.specs.declared.Item.TheVariants.{DamagedHeader, Forbidden, DamagedPayload, Message}
 use Rattle.line.specs.Receiving.{held_max, receive}
 use Rattle.line.specs.Receiving as spec
-use Rattle.line.specs.declared.Answer.{Answer}
-use Rattle.line.specs.declared.Answer.TheVariants.{More, One}
 use Rattle.line.specs.declared.Place.{Place}
 use Rattle.line.specs.declared.Place.TheVariants.{Held, New}
 use Rattle.line.specs.declared.Decision.{Decision}
 use Rattle.line.specs.declared.Received.{Received}
 
--- the answers
-abbrev pub answer_of : Answer → spec.Answer
-answer_of More = spec.more
-answer_of (One i) = spec.item (item_of i)
+-- the answers: the item, or none for *more*
+abbrev pub answer_of : Option Item → spec.Answer
+answer_of None = spec.more
+answer_of (Some i) = spec.item (item_of i)
 
 -- the payload of a message from a place of the array or of the new bytes on; it is empty for all else
 abbrev pub part_at : Place → (len : ℕ) (array new : List ℕ) → List ℕ
 part_at (Held at) len array new = take len (drop at array)
 part_at (New at) len array new = take len (drop at new)
 
-abbrev pub part_of : Answer → Place → (array new : List ℕ) → List ℕ
-part_of More place array new = []
-part_of (One DamagedHeader) place array new = []
-part_of (One Forbidden) place array new = []
-part_of (One DamagedPayload) place array new = []
-part_of (One (Message kind seq len)) place array new = part_at place len array new
+abbrev pub part_of : Option Item → Place → (array new : List ℕ) → List ℕ
+part_of None place array new = []
+part_of (Some DamagedHeader) place array new = []
+part_of (Some Forbidden) place array new = []
+part_of (Some DamagedPayload) place array new = []
+part_of (Some (Message kind seq len)) place array new = part_at place len array new
 
 -- what a decision says, of the array as it is left and of the new bytes
 abbrev pub received_by : Decision → (array new : List ℕ) → spec.Received

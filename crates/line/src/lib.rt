@@ -10,13 +10,6 @@ use message::Item;
 // The most bytes that are held between calls ("At most 265 bytes are held").
 pub const HELD_MAX: usize = 265;
 
-// The item that a call decided, or that it wants more bytes.
-#[derive(Clone, Copy)]
-pub enum Answer {
-    More,
-    One(Item),
-}
-
 // Where the payload of a message begins: at this place of the lent array, or of the new bytes.
 #[derive(Clone, Copy)]
 pub enum Place {
@@ -24,21 +17,21 @@ pub enum Place {
     New(usize),
 }
 
-// What was decided: the answer, how many new bytes it takes, the part of the array that is to be held, and where the payload of a
-// message begins. The payload stays where it stands until `settle` puts that part at the front.
+// What was decided: the item, or `None` for *more*, how many new bytes it takes, the part of the array that is to be held, and where
+// the payload of a message begins. The payload stays where it stands until `settle` puts that part at the front.
 #[derive(Clone, Copy)]
 pub struct Decision {
-    pub answer: Answer,
+    pub answer: Option<Item>,
     pub taken: usize,
     pub start: usize,
     pub count: usize,
     pub payload: Place,
 }
 
-// The item or *more*, the new bytes taken, and how many bytes are held now.
+// The item, or `None` for *more*, the new bytes taken, and how many bytes are held now.
 #[derive(Drop)]
 pub struct Received {
-    pub answer: Answer,
+    pub answer: Option<Item>,
     pub taken: usize,
     pub count: usize,
 }

@@ -2,7 +2,7 @@
 ghost use Rattle.std.specs.Prelude.{◌≡◌, take, drop};
 ghost use Rattle.line.specs.Promises.{part_of};
 
-use crate::{Answer, Decision, Place};
+use crate::{Decision, Place};
 use message::Item;
 
 // The payload of what `decide` found, as a part of the array that it left or of the new bytes, and no copy: empty for all but a
@@ -12,7 +12,7 @@ pub fn payload<'a>(array: &'a [u8], new: &'a [u8], decision: Decision) -> &'a [u
     ensures { result.now ≡ part_of decision.answer decision.payload array.now new.now }
 {
     let answer = decision.answer;
-    let Answer::One(item) = answer else {
+    let Some(item) = answer else {
         return &new[..0];
     };
     let Item::Message {

@@ -2,18 +2,17 @@
 // where it is held: into the array, or to its front.
 #![tactic(auto)]
 
-ghost use Rattle.std.specs.Prelude.{◌≡◌, false, [], ◌+◌, ◌≤◌, length, take};
+ghost use Rattle.std.specs.Prelude.{◌≡◌, false, [], ◌+◌, ◌≤◌, length, take, Some};
 ghost use Rattle.message.specs.Bytes.{header_length};
 ghost use Rattle.message.specs.Items.{undecided, decided, scan};
 ghost use Rattle.message.specs.Promises.{item_of, scan_of};
 ghost use Rattle.line.specs.Receiving.{held_max, decides, taken};
 ghost use Rattle.line.specs.Code.{breaks};
 ghost use Rattle.line.specs.Promises.{Decides};
-ghost use Rattle.line.specs.declared.Answer.TheVariants.{One};
 ghost use Rattle.line.specs.declared.Place.TheVariants.{Held};
 
 use line::store::put_at;
-use line::{Answer, Decision, Place};
+use line::{Decision, Place};
 use line_joining::{all_held, join};
 use message::header::{HEADER_LENGTH, SYN, total_length};
 use message::{Item, Reading};
@@ -55,12 +54,12 @@ fn dropped_of(reading: Reading) -> usize
 // An item of the array's first count bytes alone: none is moved, and no new one taken.
 fn in_array(item: Item, dropped: usize, removed: usize, count: usize) -> Decision
     requires { (dropped + removed ≤ count) × (count ≤ held_max) }
-    ensures { (result.answer ≡ One item) × (result.taken ≡ 0) × (result.start ≡ dropped + removed)
+    ensures { (result.answer ≡ Some item) × (result.taken ≡ 0) × (result.start ≡ dropped + removed)
         × (result.start + result.count ≡ count) × (result.payload ≡ Held (dropped + header_length)) }
 {
     let start = dropped + removed;
     Decision {
-        answer: Answer::One(item),
+        answer: Some(item),
         taken: 0,
         start,
         count: count - start,
@@ -126,7 +125,7 @@ fn item_in_new(array: &mut [u8], item: Item, dropped: usize, removed: usize, new
     let follows = &new[dropped + removed..end];
     put_at(array, 0, follows);
     Decision {
-        answer: Answer::One(item),
+        answer: Some(item),
         taken: end,
         start: 0,
         count: follows.len(),

@@ -2,17 +2,16 @@
 // bytes are put behind that part. The bytes of the array are moved once, when it is known whether SYN stays.
 #![tactic(auto)]
 
-ghost use Rattle.std.specs.Prelude.{◌≡◌, false, ◌++◌, ◌+◌, ◌-◌, ◌^◌, ◌≤◌, ◌<◌, length, take, drop};
+ghost use Rattle.std.specs.Prelude.{◌≡◌, false, ◌++◌, ◌+◌, ◌-◌, ◌^◌, ◌≤◌, ◌<◌, length, take, drop, None, Some};
 ghost use Rattle.message.specs.Bytes.{header_length, total, syn};
 ghost use Rattle.message.specs.Items.{undecided, len_in, scan};
 ghost use Rattle.message.specs.Writing.{placed};
 ghost use Rattle.line.specs.Receiving.{held_max};
 ghost use Rattle.line.specs.Code.{breaks};
 ghost use Rattle.line.specs.Promises.{Decides};
-ghost use Rattle.line.specs.declared.Answer.TheVariants.{More, One};
 
 use line::store::{move_to_front, put_at};
-use line::{Answer, Decision, Place};
+use line::{Decision, Place};
 use message::header::{HEADER_LENGTH, SYN_LENGTH, total_length};
 use message::{Item, Reading, Seq};
 use message_reader::{len_in, payload_is_sound, read};
@@ -79,13 +78,13 @@ fn join_header(first: &[u8], second: &[u8]) -> [u8; HEADER_LENGTH]
 // An item that the header's last bytes decide.
 fn header_item(array: &mut [u8], from: usize, kept: usize, item: Item, bytes: &[u8]) -> Decision
     requires { (length array.old ≡ held_max) × (from + kept ≤ held_max) × (kept + length bytes.now ≡ header_length) }
-    ensures { (result.answer ≡ One item) × (result.taken ≡ length bytes.now) × (result.start ≡ 0) × (result.count ≡ 6)
+    ensures { (result.answer ≡ Some item) × (result.taken ≡ length bytes.now) × (result.start ≡ 0) × (result.count ≡ 6)
         × (array.new ≡ placed 0 (drop (length syn) (take kept (drop from array.old) ++ bytes.now))
         array.old) }
 {
     append_behind_syn(array, from, kept, bytes);
     Decision {
-        answer: Answer::One(item),
+        answer: Some(item),
         taken: bytes.len(),
         start: 0,
         count: HEADER_BEHIND_SYN,
@@ -127,7 +126,7 @@ fn whole_message(
         let kind = array[TYPE_BEHIND_SYN];
         let seq = Seq(array[SEQ_BEHIND_SYN]);
         return Decision {
-            answer: Answer::One(Item::Message { kind, seq, len }),
+            answer: Some(Item::Message { kind, seq, len }),
             taken: need,
             start: 0,
             count: 0,
@@ -137,7 +136,7 @@ fn whole_message(
     let whole = kept + need;
     // the search goes on behind SYN, and not behind the message
     Decision {
-        answer: Answer::One(Item::DamagedPayload),
+        answer: Some(Item::DamagedPayload),
         taken: need,
         start: 0,
         count: whole - SYN_LENGTH,
@@ -159,10 +158,10 @@ fn all_wait(array: &mut [u8], from: usize, kept: usize, new: &[u8]) -> Decision
 // No item: all bytes are taken, and count of them held at the front. For the callers here and in the crate above.
 // Ruled out: an answer that names an item, and bytes to be held that begin behind the front.
 pub fn all_held(count: usize, taken: usize) -> Decision
-    ensures { (result.answer ≡ More) × (result.taken ≡ taken) × (result.start ≡ 0) × (result.count ≡ count) }
+    ensures { (result.answer ≡ None) × (result.taken ≡ taken) × (result.start ≡ 0) × (result.count ≡ count) }
 {
     Decision {
-        answer: Answer::More,
+        answer: None,
         taken,
         start: 0,
         count,

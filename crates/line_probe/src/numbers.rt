@@ -6,7 +6,7 @@ ghost use Rattle.line.specs.Promises.{answer_of};
 ghost use Rattle.line_probe.specs.Numbers.{numbers, numbers_of};
 ghost use Rattle.line_probe.specs.Code.{numbers_in};
 
-use line::{Answer, Received};
+use line::Received;
 use message::Item;
 
 // What the probe answers.
@@ -32,8 +32,8 @@ pub(crate) fn of_received(received: Received) -> Numbers
 {
     let answer = received.answer;
     match answer {
-        Answer::More => of_no_message(0, received.taken, received.count),
-        Answer::One(item) => of_item(item, received.taken, received.count),
+        None => of_no_message(0, received.taken, received.count),
+        Some(item) => of_item(item, received.taken, received.count),
     }
 }
 

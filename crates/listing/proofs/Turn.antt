@@ -8,7 +8,7 @@ use native.Mathlib.Omega.{arith}
 use lib.ListN.{length, take, drop, length-take, length-drop, length-append}
 use lib.Seq.{take_all}
 use borrow.Author.Tests.{leb-false}
-use Rattle.std.specs.Prelude.{Option}
+use Rattle.std.specs.Prelude.{Option, None, Some}
 use Rattle.std.specs.Io.KnownBytes.{Appends}
 use Rattle.std.proofs.KnownBytes.{Appends-nil, Appends-trans}
 use Rattle.message.specs.Promises.{item_of}
@@ -18,7 +18,6 @@ use Rattle.line.specs.Cuts.{found, before, handed}
 use Rattle.line.specs.Promises.{answer_of, Receives}
 use Rattle.line.specs.Receiving.{item}
 use Rattle.line.specs.Receiving as spec
-use Rattle.line.specs.declared.Answer.TheVariants.{More, One}
 use Rattle.line.specs.declared.Received.{Received}
 use Rattle.line.proofs.Laws.{item_removes, message_short, handed_more, handed_item}
 use Rattle.listing_words.specs.Words.{decimal_limit}
@@ -53,7 +52,7 @@ pub sent_none : (room : ℕ) (start : Standing) (piece : List ℕ) (written : Op
 sent_none room start piece written = record { done = []; grows = Appends-nil written; so_far = refl }
 
 module _ (r : Received) (held new exit : List ℕ) (p : Receives r held new exit) where
-  module _ (i : Item) (told : r.answer ≡ One i) where
+  module _ (i : Item) (told : r.answer ≡ Some i) where
     said : (spec.receive held new).answer ≡ item (item_of i)
     said = sym p.answers ∙ ap answer_of told
 
@@ -123,13 +122,13 @@ module _ (r : Received) (held new exit : List ℕ) (p : Receives r held new exit
             }
 
   -- *more*: all lines have joined
-  pub listed_more : r.answer ≡ More → (room : ℕ) (waiting : List ℕ)
+  pub listed_more : r.answer ≡ None → (room : ℕ) (waiting : List ℕ)
       → record { waiting = waiting; held = take r.count exit } ≡ listed room record { waiting = waiting; held = held } new
   unfolding listed items_of waits_after
   listed_more told room waiting = rw (handed_more held new (sym p.answers ∙ ap answer_of told), p.holds)
 
   -- and all that they wanted has been written
-  pub sent_more : r.answer ≡ More → (room : ℕ) (waiting : List ℕ) {start : Standing} {piece : List ℕ} {written written' : Option (List ℕ)}
+  pub sent_more : r.answer ≡ None → (room : ℕ) (waiting : List ℕ) {start : Standing} {piece : List ℕ} {written written' : Option (List ℕ)}
       → Sent room start piece record { waiting = waiting; held = held } new written written'
       → Appends written written' (writes_in room start piece)
   unfolding writes_in items_of writes_after
@@ -143,7 +142,7 @@ short_by held new Forbidden h = omega arith
 short_by held new DamagedPayload h = omega arith
 short_by held new (Message t q len) h = omega (arith, message_short held new h)
 
-pub short : (r : Received) (held new exit : List ℕ) → Receives r held new exit → (i : Item) → r.answer ≡ One i
+pub short : (r : Received) (held new exit : List ℕ) → Receives r held new exit → (i : Item) → r.answer ≡ Some i
     → len_of (item_of i) < decimal_limit
 short r held new exit p i told = short_by held new i (said r held new exit p i told)
 

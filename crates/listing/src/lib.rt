@@ -10,7 +10,7 @@ ghost use Rattle.listing.specs.Standing.{writes_in};
 ghost use Rattle.listing.specs.Promises.{standing, ListsPiece, ListsSome, ListsAll};
 ghost use Rattle.listing.specs.Moving.{MovesSome, MovesAll, Finishes, Lists};
 
-use line::{Answer, HELD_MAX};
+use line::HELD_MAX;
 use line_receiving::receive;
 use listing_lines::add_line;
 use listing_lines::text::put_end;
@@ -158,7 +158,7 @@ fn list_piece<W: Write>(
         let received = receive(held, count, rest);
         count = received.count;
         let answer = received.answer;
-        let Answer::One(item) = answer else {
+        let Some(item) = answer else {
             return Listing {
                 count,
                 used,

@@ -2,8 +2,6 @@
 use Rattle.std.specs.Prelude.{ℕ, ◌+◌, Bool, true, false, List, ◌++◌, Option, Some, None, Ok, Err, length}
 use Rattle.message.specs.declared.Item.{Item}
 use Rattle.message.specs.declared.Item.TheVariants.{DamagedHeader, Forbidden, DamagedPayload, Message}
-use Rattle.line.specs.declared.Answer.{Answer}
-use Rattle.line.specs.declared.Answer.TheVariants.{More, One}
 use Rattle.ledger.specs.declared.Command.{Command}
 use Rattle.ledger.specs.declared.Word.{Word}
 use Rattle.ledger.specs.declared.Word.TheVariants as words
@@ -23,9 +21,9 @@ one_text DamagedPayload = ascii "damaged-payload"
 one_text (Message type seq len) = named (ascii "message ") type ++ (named (ascii " ") seq.0 ++ named (ascii " ") len)
 
 -- the item, or that more bytes are wanted
-unfoldable pub item_text : Answer → List ℕ
-item_text More = ascii "more"
-item_text (One i) = one_text i
+unfoldable pub item_text : Option Item → List ℕ
+item_text None = ascii "more"
+item_text (Some i) = one_text i
 
 -- a command behind its word: its fields, RQID and the length of its data
 unfoldable pub command_text : List ℕ → Command → List ℕ
@@ -61,7 +59,7 @@ submit_text (Ok id) = named (ascii "submitted ") id.0
 submit_text (Err r) = named (ascii "submit refused ") (number_of r)
 
 -- receive: the item and the word
-unfoldable pub judged_text : Answer → Word → List ℕ
+unfoldable pub judged_text : Option Item → Word → List ℕ
 judged_text i w = ascii "received " ++ (item_text i ++ word_text w)
 
 -- then the bytes taken, the reply, the data and the ending

@@ -8,7 +8,7 @@ ghost use Rattle.transcript.specs.Lines.{open_room, submit_room, judged_room, re
 use crate::parts::{put_ended, put_item, put_lent, put_word};
 use host_answers::{OpenAnswer, PollAnswer, PollOutcome, Receipt, ReceiveAnswer, SubmitAnswer};
 use ledger::Word;
-use line::Answer;
+use message::Item;
 use texts::{put, put_named};
 use transcript_parts::put_ending;
 
@@ -67,7 +67,7 @@ fn put_receipt(out: &mut [u8], at: usize, receipt: Receipt, reply: &[u8], handed
     put_ended(out, end, ending)
 }
 
-fn put_judged(out: &mut [u8], at: usize, item: Answer, word: Word) -> usize
+fn put_judged(out: &mut [u8], at: usize, item: Option<Item>, word: Word) -> usize
     requires { at + judged_room ≤ length out.old }
     ensures { Puts judged_room at (judged_text item word) out.old out.new result }
 {

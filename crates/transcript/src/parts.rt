@@ -5,19 +5,18 @@ ghost use Rattle.transcript.specs.Lines.{one_text, item_text, command_text, word
 ghost use Rattle.transcript.specs.Lines.{item_room, command_room, word_room, lent_room, ended_room};
 
 use ledger::{Command, Ending, Word};
-use line::Answer;
 use message::{Item, Seq};
 use texts::{put, put_bytes, put_named, put_spaced};
 use transcript_parts::{put_ending, put_fields};
 
 // The item, or `more`.
-pub(crate) fn put_item(out: &mut [u8], at: usize, answer: Answer) -> usize
+pub(crate) fn put_item(out: &mut [u8], at: usize, answer: Option<Item>) -> usize
     requires { at + item_room ≤ length out.old }
     ensures { Puts item_room at (item_text answer) out.old out.new result }
 {
     match answer {
-        Answer::More => put(out, at, b"more"),
-        Answer::One(item) => put_one(out, at, item),
+        None => put(out, at, b"more"),
+        Some(item) => put_one(out, at, item),
     }
 }
 

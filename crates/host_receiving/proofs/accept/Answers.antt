@@ -1,7 +1,7 @@
 -- `host_receiving::accept` meets its contract: by what the line decided.
 use mathlib.Core.Path.{refl, ap, ◌∙◌}
 use native.Mathlib.Omega.{arith}
-use Rattle.line.specs.declared.Answer.TheVariants.{One}
+use Rattle.std.specs.Prelude.{Some}
 use Rattle.refinement.proofs.Sound.{few_of, held_of}
 use Rattle.host_receiving.proofs.Deciding.{short_payload, on_more, on_plain, on_message_law}
 use borrow.Enum.Refused.{opened}
@@ -56,8 +56,8 @@ returns-in_default-item c =
     let d = c.decide_in-decision in
     let a = c.args in
     on_plain a.e d.result v.result a.clock put.result c.act-in_default-item.result a.bytes.now a.store.now
-    d.new.store c.act-in_default-item.new.store a.reply.now a.buffer.now d.ensures c.act-in_default-item.ensures c.in-One.item
-    put.new.reply c.in-One.is (opened c.in_default-item.in_default-item-own.keys2)
+    d.new.store c.act-in_default-item.new.store a.reply.now a.buffer.now d.ensures c.act-in_default-item.ensures c.in-Some.item
+    put.new.reply c.in-Some.is (opened c.in_default-item.in_default-item-own.keys2)
     (record { word = v.ensures.0; change = v.ensures.1; seen = v.ensures.2 }) put.ensures
 
 pub returns : goal.returns
@@ -68,5 +68,5 @@ returns c =
     let a = c.args in
     on_message_law a.e d.result v.result a.clock put.result c.act-2.result a.bytes.now a.store.now
     d.new.store c.act-2.new.store a.reply.now a.buffer.now d.ensures c.act-2.ensures c.in-Message.kind
-    c.in-Message.len c.in-Message.seq put.new.reply v.new.buffer (c.in-One.is ∙ ap One c.in-Message.is)
+    c.in-Message.len c.in-Message.seq put.new.reply v.new.buffer (c.in-Some.is ∙ ap Some c.in-Message.is)
     (rw c.in-Message.is at put.ensures) v.ensures.0 v.ensures.1

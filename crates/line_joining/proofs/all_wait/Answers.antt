@@ -5,12 +5,12 @@ use mathlib.Core.Path.{◌≡◌, ◌∙◌}
 use native.Mathlib.Omega.{arith}
 use lib.ListN.{length, take, drop, length-append, length-drop}
 use lib.Seq.{length-take-le}
+use Rattle.std.specs.Prelude.{None}
 use Rattle.message.specs.Items.{undecided, scan}
 use Rattle.message.specs.Writing.{placed}
 use Rattle.message.proofs.Buffer.{through_placed}
 use Rattle.line.specs.Promises.{Decides}
 use Rattle.line.specs.Receiving.{held_max}
-use Rattle.line.specs.declared.Answer.TheVariants.{More}
 use Rattle.line.specs.declared.Decision.{Decision}
 use Rattle.line.proofs.Gives.{gives_more, front_placed}
 use Rattle.line.proofs.Moving.{moved, length_moved}
@@ -18,7 +18,7 @@ use Rattle.line_joining.proofs.all_wait.Goals as goal
 
 waits : (d : Decision) (from kept : ℕ) (array new x exit : List ℕ) → length array ≡ held_max → from + kept ≤ held_max
     → kept + length new ≤ held_max → scan (take kept (drop from array) ++ new) ≡ undecided 0
-    → (d.answer ≡ More) × (d.taken ≡ length new) × (d.start ≡ 0) × (d.count ≡ kept + length new)
+    → (d.answer ≡ None) × (d.taken ≡ length new) × (d.start ≡ 0) × (d.count ≡ kept + length new)
     → x ≡ moved from kept array → exit ≡ placed kept new x → Decides d (take kept (drop from array)) new exit
 waits d from kept array new x exit size within fits none said one two =
     let held = take kept (drop from array) in

@@ -28,30 +28,30 @@ pub add_line-sheet-requires : goal.add_line-sheet-requires
 add_line-sheet-requires _ c =
     let r = c.receive-received in
     let l = c.loop-item.invariant in
-    (l.1, l.2, short r.result _ _ _ r.ensures _ c.in-One.is)
+    (l.1, l.2, short r.result _ _ _ r.ensures _ c.in-Some.is)
 
 pub returns-then-not-sheet-clause-lists_piece : goal.returns-then-not-sheet-clause-lists_piece
 returns-then-not-sheet-clause-lists_piece _ c =
     let r = c.receive-received in
     let l = c.loop-item.invariant in
-    left_fails r.result _ _ _ r.ensures _ c.in-One.is _ _ l.4 l.3 c.add_line-sheet.ensures.adds (omega (arith, l.2, l.3))
+    left_fails r.result _ _ _ r.ensures _ c.in-Some.is _ _ l.4 l.3 c.add_line-sheet.ensures.adds (omega (arith, l.2, l.3))
     (not-true _ c.if-not-sheet.true)
 
 pub slice_bounds-rest-count : goal.slice_bounds-rest-count
 slice_bounds-rest-count _ c =
     let r = c.receive-received in
-    (removes r.result _ _ _ r.ensures _ c.in-One.is).0
+    (removes r.result _ _ _ r.ensures _ c.in-Some.is).0
 
 pub slice_bounds-rest-start : goal.slice_bounds-rest-start
 slice_bounds-rest-start _ c =
     let r = c.receive-received in
-    (removes r.result _ _ _ r.ensures _ c.in-One.is).0
+    (removes r.result _ _ _ r.ensures _ c.in-Some.is).0
 
 pub loop-item-smaller : goal.loop-item-smaller
 loop-item-smaller _ c =
     let r = c.receive-received in
     let w = removes r.result _ _ _ r.ensures _
-    c.in-One.is in
+    c.in-Some.is in
     simp (length-take, length-drop) (omega (arith, w, counted c.loop-item.count c.loop-item.held))
 
 pub loop-item-preserved : goal.loop-item-preserved
@@ -64,6 +64,6 @@ loop-item-preserved _ c =
       a.ensures.adds.within,
       omega (arith, l.2, l.3),
       omega (arith, l.3),
-      left_next r.result _ _ _ r.ensures _ c.in-One.is _ _ l.4 l.3 a.ensures.adds fine,
-      sent_next r.result _ _ _ r.ensures _ c.in-One.is _ _ l.4 l.3 a.ensures.adds l.5 fine a.ensures.written,
+      left_next r.result _ _ _ r.ensures _ c.in-Some.is _ _ l.4 l.3 a.ensures.adds fine,
+      sent_next r.result _ _ _ r.ensures _ c.in-Some.is _ _ l.4 l.3 a.ensures.adds l.5 fine a.ensures.written,
     )

@@ -4,10 +4,10 @@ use Rattle.transcript.specs.Lines.{item_text}
 use Rattle.texts.proofs.Putting.{wider}
 use Rattle.transcript.proofs.parts.put_item.Goals as goal
 
-pub returns-in-More : goal.returns-in-More
+pub returns-in-None : goal.returns-in-None
 unfolding item_text
-returns-in-More c = rw c.in-More.is (wider (omega arith) c.put.ensures)
+returns-in-None c = rw c.in-None.is (wider (omega arith) c.put.ensures)
 
-pub returns-in-One : goal.returns-in-One
+pub returns-in-Some : goal.returns-in-Some
 unfolding item_text
-returns-in-One c = rw c.in-One.is (wider (omega arith) c.put_one.ensures)
+returns-in-Some c = rw c.in-Some.is (wider (omega arith) c.put_one.ensures)
