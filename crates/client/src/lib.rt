@@ -47,7 +47,6 @@ pub fn exchange(
         store.new output.new reply.new buffer.new frames.new }
 {
     let opened = open(reserved);
-    let answer = opened.answer;
     let asked = ask(opened.endpoint, store, fields, data, output, at.asked);
     let heard = hear(
         asked.endpoint,
@@ -62,7 +61,7 @@ pub fn exchange(
     let asked_again = ask(heard.endpoint, store, fields, data, frames, at.heard);
     let over = give_up(asked_again.endpoint, store, frames, at);
     Report {
-        opened: answer,
+        opened: opened.answer,
         first: asked,
         heard,
         second: asked_again,

@@ -21,16 +21,12 @@ pub fn ask(
         output.new clock }
 {
     let submitted = submit(e, store, fields, data, true, clock);
-    let id = submitted.answer;
     let sending = poll(submitted.endpoint, store, output, clock);
-    let sent = sending.answer;
     let resting = poll(sending.endpoint, store, output, clock);
-    let rests = resting.answer;
-    let endpoint = resting.endpoint;
     Asked {
-        id,
-        sent,
-        rests,
-        endpoint,
+        id: submitted.answer,
+        sent: sending.answer,
+        rests: resting.answer,
+        endpoint: resting.endpoint,
     }
 }

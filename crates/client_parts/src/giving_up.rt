@@ -16,22 +16,16 @@ pub fn give_up(
     ensures { GivesUp result e store.old store.new output.old output.new at }
 {
     let resending = poll(e, store, output, at.again);
-    let second = resending.answer;
     let resting = poll(resending.endpoint, store, output, at.again);
-    let rests = resting.answer;
     let sending_last = poll(resting.endpoint, store, output, at.last);
-    let third = sending_last.answer;
     let resting_again = poll(sending_last.endpoint, store, output, at.last);
-    let calm = resting_again.answer;
     let ending = poll(resting_again.endpoint, store, output, at.over);
-    let ended = ending.answer;
-    let endpoint = ending.endpoint;
     GivenUp {
-        second,
-        rests,
-        third,
-        calm,
-        ended,
-        endpoint,
+        second: resending.answer,
+        rests: resting.answer,
+        third: sending_last.answer,
+        calm: resting_again.answer,
+        ended: ending.answer,
+        endpoint: ending.endpoint,
     }
 }

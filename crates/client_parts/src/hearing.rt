@@ -21,16 +21,12 @@ pub fn hear(
         reply.old reply.new buffer.old buffer.new clock }
 {
     let to_ack = receive(e, store, ack, reply, buffer, clock);
-    let acknowledged = to_ack.answer;
     let to_first = receive(to_ack.endpoint, store, first, reply, buffer, clock);
-    let waits = to_first.answer;
     let to_second = receive(to_first.endpoint, store, second, reply, buffer, clock);
-    let answered = to_second.answer;
-    let endpoint = to_second.endpoint;
     Heard {
-        acknowledged,
-        waits,
-        answered,
-        endpoint,
+        acknowledged: to_ack.answer,
+        waits: to_first.answer,
+        answered: to_second.answer,
+        endpoint: to_second.endpoint,
     }
 }

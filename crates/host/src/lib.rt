@@ -14,12 +14,12 @@ ghost use Rattle.host_claims.specs.Claims.{Begins, Extends};
 
 use command::Fields;
 use endpoint::{Endpoint, RESERVED_MAX, STORE_LENGTH};
-use host_answers::{OpenAnswer, Opened, Polled, Received, Submitted};
+use host_answers::{Opened, Polled, Received, Submitted};
 use host_polling::poll_in;
 use host_receiving::receive_in;
 use host_submitting::submit_in;
+use ledger::Refusal;
 use opening::fresh;
-use refusals::RESERVED_OVER;
 
 // Opens an endpoint that keeps the request IDs 1 to R for events. R over 255 is refusal 3, with the fresh endpoint for R = 0. The
 // store that is lent to the later calls may hold any bytes.
@@ -30,12 +30,12 @@ pub fn open(reserved: u64) -> Opened
 {
     if RESERVED_MAX < reserved {
         return Opened {
-            answer: OpenAnswer::Refused(RESERVED_OVER),
+            answer: Err(Refusal::ReservedOver),
             endpoint: fresh(0),
         };
     }
     Opened {
-        answer: OpenAnswer::Opened,
+        answer: Ok(()),
         endpoint: fresh(reserved),
     }
 }

@@ -14,17 +14,13 @@ pub(crate) fn fresh(reserved: u64) -> Endpoint
     requires { reserved ≤ reserved_max }
     ensures { ((store : List ℕ) → ledger_of result store ≡ fresh reserved) × (malformed result ≡ false) }
 {
-    let live = no_requests();
-    let seq = first();
-    let next = RequestId(reserved as u16 + 1);
-    let seen = Seen::none();
     Endpoint {
-        live,
+        live: no_requests(),
         reserved,
         clock: 0,
-        seq,
-        next,
-        seen,
+        seq: first(),
+        next: RequestId(reserved as u16 + 1),
+        seen: Seen::none(),
         held: 0,
     }
 }
@@ -46,6 +42,8 @@ fn no_requests() -> Requests
         len: 0,
         state: State::Queued,
     };
-    let rows = [it; LIVE_MAX];
-    Requests { rows, count: 0 }
+    Requests {
+        rows: [it; LIVE_MAX],
+        count: 0,
+    }
 }

@@ -18,8 +18,8 @@ use Rattle.decisions_verdict.specs.declared.Verdict.{Verdict}
 use Rattle.host_answers.specs.Answers.{ended_of}
 use Rattle.host_answers.specs.Promises.{receive_result}
 use Rattle.host_answers.specs.Code.{Does, DecidesIn}
-use Rattle.host_answers.specs.declared.Ended.{Ended}
-use Rattle.host_answers.specs.declared.ReceiveAnswer.TheVariants as answer
+use Rattle.ledger.specs.declared.Ending.{Ending}
+use Rattle.std.specs.Prelude.{Option, Ok}
 use Rattle.host_answers.specs.declared.Received.{Received}
 use Rattle.host_answers.proofs.Held.{same_live, held_same}
 
@@ -30,9 +30,9 @@ pub record Settled (d : Decision) (held : ℕ) (entry exit : List ℕ) : Type 0 
   pub rooms : drop held_max exit ≡ drop held_max entry
 
 -- what is handed back
-abbrev pub handed_back : Endpoint → Decision → Verdict → Ended → Requests → (held replied clock : ℕ) → Received
+abbrev pub handed_back : Endpoint → Decision → Verdict → Option Ending → Requests → (held replied clock : ℕ) → Received
 handed_back e d v ending live held replied clock = record {
-  answer = answer.Received (record { item = d.answer; word = v.word; taken = d.taken; replied = replied; ending = ending });
+  answer = Ok (record { item = d.answer; word = v.word; taken = d.taken; replied = replied; ending = ending });
   endpoint = record {
     live = live;
     reserved = e.reserved;
@@ -44,7 +44,7 @@ handed_back e d v ending live held replied clock = record {
   };
 }
 
-pub acted : (e : Endpoint) (d : Decision) (v : Verdict) (ending : Ended) (live : Requests) (held replied clock : ℕ)
+pub acted : (e : Endpoint) (d : Decision) (v : Verdict) (ending : Option Ending) (live : Requests) (held replied clock : ℕ)
     (entry new middle settled exit words payload reply buffer : List ℕ)
     → DecidesIn d e.held new entry middle → length words ≡ replied → Settled d held middle settled
     → ((store : List ℕ) → ended_of ending ≡ ending_by v.change (live_of e.live store))

@@ -11,29 +11,28 @@ ghost use Rattle.line.specs.Promises.{part_of};
 ghost use Rattle.command.specs.Payload.{max_data};
 ghost use Rattle.ledger.specs.Parts.{live_max};
 ghost use Rattle.ledger.specs.Receiving.{received_as};
-ghost use Rattle.endpoint.specs.Endpoint.{store_length, ledger_of, live_of};
+ghost use Rattle.endpoint.specs.Endpoint.{ledger_of, live_of};
 ghost use Rattle.live_changes.specs.Changing.{Names};
 ghost use Rattle.host_answers.specs.Promises.{receive_result};
-ghost use Rattle.host_answers.specs.Code.{Ready, Does, DecidesIn};
+ghost use Rattle.host_answers.specs.Code.{Sound, Does, DecidesIn};
 ghost use Rattle.decisions_verdict.specs.Verdicts.{bytes_for, act_of, Judges};
 
 use decisions::judge;
 use decisions_verdict::Verdict;
-use endpoint::{Endpoint, Requests};
-use host_answers::{Receipt, ReceiveAnswer, Received};
+use endpoint::{Endpoint, STORE_LENGTH};
+use host_answers::{Receipt, Received};
 use host_deliveries::{ending_of, hand_over};
 use line::payload::payload;
 use line::{Decision, HELD_MAX};
 use line_deciding::decide;
 use line_receiving::settle;
-use link::repeats::Seen;
 use live_changes::carry_out;
 use message::Seq;
 
 // The line's decision on the held bytes, at the front of the store, and the new ones. The rooms stay.
 // Ruled out: a decision on the bytes behind the held ones, and one that reaches into a room.
-pub fn decide_in(store: &mut [u8], held: usize, bytes: &[u8]) -> Decision
-    requires { (length store.old ≡ store_length) × (held ≤ held_max) }
+pub fn decide_in(store: &mut [u8; STORE_LENGTH], held: usize, bytes: &[u8]) -> Decision
+    requires { held ≤ held_max }
     ensures { DecidesIn result held bytes.now store.old store.new }
 {
     decide(&mut store[..HELD_MAX], held, bytes)
@@ -60,8 +59,7 @@ pub fn deliver<'a>(
 {
     let body = payload(array, bytes, decision);
     let verdict = judge(e, kind, seq, body, clock);
-    let word = verdict.word;
-    hand_over(buffer, word, body);
+    hand_over(buffer, verdict.word, body);
     verdict
 }
 
@@ -70,13 +68,13 @@ pub fn deliver<'a>(
 // Ruled out: *more* answered for an item, and held bytes that are lost.
 pub fn act(
     e: Endpoint,
-    store: &mut [u8],
+    store: &mut [u8; STORE_LENGTH],
     decision: Decision,
     verdict: Verdict,
     replied: usize,
     clock: u64,
 ) -> Received
-    requires { Ready e clock store.old × (decision.start + decision.count ≤ held_max)
+    requires { Sound e clock × (decision.start + decision.count ≤ held_max)
         × Names verdict.change e.live.count }
     ensures { (before new words payload reply buffer : List ℕ) → DecidesIn decision e.held new before store.old
         → length words ≡ replied
@@ -85,57 +83,33 @@ pub fn act(
         (receive_result result store.new (placed 0 words reply) (placed 0 (bytes_for verdict.word payload) buffer)) }
 {
     let held = settle_in(store, decision);
-    let rows = e.live;
-    let change = verdict.change;
-    let ending = ending_of(rows, change);
-    let live = carry_out(rows, store, change);
-    let item = decision.answer;
-    let word = verdict.word;
+    let ending = ending_of(e.live, verdict.change);
+    let live = carry_out(e.live, store, verdict.change);
     let receipt = Receipt {
-        item,
-        word,
+        item: decision.answer,
+        word: verdict.word,
         taken: decision.taken,
         replied,
         ending,
     };
-    let seen = verdict.seen;
     Received {
-        answer: ReceiveAnswer::Received(receipt),
-        endpoint: after(e, live, seen, held, clock),
+        answer: Ok(receipt),
+        endpoint: Endpoint {
+            live,
+            clock,
+            seen: verdict.seen,
+            held,
+            ..e
+        },
     }
 }
 
 // Puts the bytes to be held at the front of the store, and answers how many they are. The rooms stay.
-fn settle_in(store: &mut [u8], decision: Decision) -> usize
-    requires { (length store.old ≡ store_length) × (decision.start + decision.count ≤ held_max) }
+fn settle_in(store: &mut [u8; STORE_LENGTH], decision: Decision) -> usize
+    requires { decision.start + decision.count ≤ held_max }
     ensures { (result ≡ decision.count)
         × (take result store.new ≡ take decision.count (drop decision.start (take held_max store.old)))
         × (drop held_max store.new ≡ drop held_max store.old) }
 {
     settle(&mut store[..HELD_MAX], decision)
-}
-
-// The endpoint after a receive.
-fn after(e: Endpoint, live: Requests, seen: Seen, held: usize, clock: u64) -> Endpoint
-    ensures { result ≡ record {
-      live = live;
-      reserved = e.reserved;
-      clock = clock;
-      seq = e.seq;
-      next = e.next;
-      seen = seen;
-      held = held;
-    } }
-{
-    let seq = e.seq;
-    let next = e.next;
-    Endpoint {
-        live,
-        reserved: e.reserved,
-        clock,
-        seq,
-        next,
-        seen,
-        held,
-    }
 }

@@ -3,7 +3,7 @@ use Prim.Native.Nat.{ℕ}
 use mathlib.Core.Bool.{false}
 use mathlib.Core.List.{List}
 use mathlib.Core.Option.{Option, none, some}
-use mathlib.Core.Path.{◌≡◌, sym, ◌∙◌}
+use mathlib.Core.Path.{◌≡◌}
 use borrow.Author.Tests.{ltb-false}
 use Rattle.ledger.specs.Calls.{Call}
 use Rattle.ledger.specs.Refusals.{Line, first_of}
@@ -14,11 +14,9 @@ use Rattle.endpoint.specs.declared.Endpoint.{Endpoint}
 use Rattle.refinement.specs.Refusals.{refusal_of}
 use Rattle.refinement.proofs.Sound.{next_sound}
 use Rattle.host_answers.specs.Promises.{Result, Refuses, ByTable, Promise}
-use Rattle.refusals.specs.Code.{check_of, with_endpoint}
+use Rattle.refusals.specs.Code.{with_endpoint}
 use Rattle.refusals.proofs.Table.{passed}
 use Rattle.host_answers.specs.Code.{Sound, Does}
-use Rattle.refusals.specs.declared.Check.{Check}
-use Rattle.refusals.specs.declared.Check.TheVariants.{Refused, Accepted}
 
 by_table : (e : Endpoint) (store : List ℕ) (c : Call) (o : Result) {n : Option ℕ} → refusal_of e store c ≡ n
     → ByTable n e store c o
@@ -38,14 +36,6 @@ meets e store c o fine table does =
 pub refuses : (e : Endpoint) (store : List ℕ) (c : Call) (o : Result) (n : ℕ) → refusal_of e store c ≡ some n
     → Refuses n e store c o → Promise e store c o
 refuses e store c o n table refused = by_table e store c o table refused
-
--- what a check of the table says of a call
-module _ (r : Check) {table : Option ℕ} (said : check_of r ≡ table) where
-  pub refused_by : {n : ℕ} → r ≡ Refused n → table ≡ some n
-  refused_by {n} h = let refused : check_of r ≡ some n = rw h in sym said ∙ refused
-
-  pub accepted_by : r ≡ Accepted → table ≡ none
-  accepted_by h = let accepted : check_of r ≡ none = rw h in sym said ∙ accepted
 
 -- an accepted call's endpoint
 pub sound_of : (e : Endpoint) (clock : ℕ) (own : List Line) → first_of (with_endpoint e clock own) ≡ none → Sound e clock

@@ -3,15 +3,11 @@
 
 use command::RequestId;
 use endpoint::Endpoint;
-use ledger::{Ending, Word};
+use ledger::{Ending, Refusal, Word};
 use message::Item;
 
-// Open: a refusal's number, or that it is done.
-#[derive(Clone, Copy)]
-pub enum OpenAnswer {
-    Refused(u8),
-    Opened,
-}
+// Open: that it is done, or the refusal.
+pub type OpenAnswer = Result<(), Refusal>;
 
 #[derive(Drop)]
 pub struct Opened {
@@ -19,12 +15,8 @@ pub struct Opened {
     pub endpoint: Endpoint,
 }
 
-// Submit: a refusal's number, or the request ID.
-#[derive(Clone, Copy)]
-pub enum SubmitAnswer {
-    Refused(u8),
-    Submitted(RequestId),
-}
+// Submit: the request ID, or the refusal.
+pub type SubmitAnswer = Result<RequestId, Refusal>;
 
 #[derive(Drop)]
 pub struct Submitted {
@@ -32,29 +24,18 @@ pub struct Submitted {
     pub endpoint: Endpoint,
 }
 
-// The ending that a receive reports, if any.
-#[derive(Clone, Copy)]
-pub enum Ended {
-    Nobody,
-    One(Ending),
-}
-
-// What an accepted receive answers: the item, or `None` for *more*, the word, the bytes taken, the reply's length and the ending.
+// What an accepted receive answers: the item, or `None` for *more*, the word, the bytes taken, the reply's length and the ending, if any.
 #[derive(Clone, Copy)]
 pub struct Receipt {
     pub item: Option<Item>,
     pub word: Word,
     pub taken: usize,
     pub replied: usize,
-    pub ending: Ended,
+    pub ending: Option<Ending>,
 }
 
-// Receive: a refusal's number, or the receipt.
-#[derive(Clone, Copy)]
-pub enum ReceiveAnswer {
-    Refused(u8),
-    Received(Receipt),
-}
+// Receive: the receipt, or the refusal.
+pub type ReceiveAnswer = Result<Receipt, Refusal>;
 
 #[derive(Drop)]
 pub struct Received {
@@ -62,15 +43,16 @@ pub struct Received {
     pub endpoint: Endpoint,
 }
 
-// Poll: a refusal's number, the length sent, an ending, or *quiet* with the milliseconds to the earliest deadline or with none.
+// What an accepted poll did: the length sent, an ending, or *quiet* with the milliseconds to the earliest deadline, if there is one.
 #[derive(Clone, Copy)]
-pub enum PollAnswer {
-    Refused(u8),
+pub enum PollOutcome {
     Sent(usize),
     Ended(Ending),
-    Quiet(u64),
-    NoDeadline,
+    Quiet(Option<u64>),
 }
+
+// Poll: what it did, or the refusal.
+pub type PollAnswer = Result<PollOutcome, Refusal>;
 
 #[derive(Drop)]
 pub struct Polled {

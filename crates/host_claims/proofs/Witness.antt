@@ -7,7 +7,7 @@ use mathlib.Core.List.{List, [], ◌∷◌, ◌++◌, map}
 use mathlib.Core.Option.{none, some}
 use mathlib.Core.Path.{◌≡◌, refl}
 use lib.ListN.{take, drop}
-use Rattle.std.specs.Prelude.{Option, None, Some}
+use Rattle.std.specs.Prelude.{Option, Some, None, Ok, Err}
 use Rattle.checksum.specs.Checksum.{with_bit, with_bits, bits_of, checksum_from, checksum_of}
 use Rattle.message.specs.Bytes.{total, max_len, ack, le16, fields, header, body, message, allowed}
 use Rattle.message.specs.Items.{stands, dropped, rules, scan}
@@ -34,6 +34,7 @@ use Rattle.ledger.specs.Runs.{Outcome, past_from, past_of}
 use Rattle.ledger.specs.Examples as example
 use Rattle.ledger.specs.Examples.{Row, zeros, front, submits, polls, receives, case_3, case_6, ack_item, ends_by}
 use Rattle.ledger.specs.declared.Cause.TheVariants.{NoResponse}
+use Rattle.ledger.specs.declared.Refusal.TheVariants.{DataOver}
 use Rattle.ledger.specs.declared.Word.TheVariants as word
 use Rattle.claims.specs.Trace.{last_asked, endings, frames, requests}
 use Rattle.claims.specs.ClockRule.{ClockRule}
@@ -48,13 +49,8 @@ use Rattle.endpoint.proofs.Rows.{blank_row}
 use Rattle.host_answers.specs.Promises.{Result, Promise, submit_result, receive_result, poll_result}
 use Rattle.host_answers.specs.Promises as promise
 use Rattle.host_answers.specs.declared.Opened as opening
-use Rattle.host_answers.specs.declared.OpenAnswer.TheVariants as open-answer
-use Rattle.host_answers.specs.declared.SubmitAnswer.{SubmitAnswer}
-use Rattle.host_answers.specs.declared.SubmitAnswer.TheVariants as submit-answer
-use Rattle.host_answers.specs.declared.Ended.TheVariants.{Nobody}
-use Rattle.host_answers.specs.declared.ReceiveAnswer.TheVariants as receive-answer
-use Rattle.host_answers.specs.declared.PollAnswer.{PollAnswer}
-use Rattle.host_answers.specs.declared.PollAnswer.TheVariants as poll-answer
+use Rattle.host_answers.specs.Answers.{SubmitAnswer, PollAnswer}
+use Rattle.host_answers.specs.declared.PollOutcome.TheVariants as outcome
 use Rattle.host_claims.specs.Chains.{Chain, outcome_from}
 use Rattle.host_claims.specs.Claims.{Demand3}
 use Rattle.host_claims.proofs.Extending.{demand_3, extends, begins}
@@ -130,7 +126,7 @@ over clock = endpoint nobody clock 1 40 0
 
 -- what open hands back, and the endpoint in the end
 abbrev pub first : opening.Opened
-first = record { answer = open-answer.Opened; endpoint = fresh }
+first = record { answer = Ok tt; endpoint = fresh }
 
 abbrev pub last : Endpoint
 last = over 12000
@@ -181,12 +177,12 @@ abbrev asking : SubmitAnswer → Endpoint → (store : List ℕ) → Result
 asking answer e store = submit_result (record { answer = answer; endpoint = e }) store
 
 submits_39 : (store : List ℕ)
-    → Made fresh store (submit (fields_of example_6) [] true 0) (asking (submit-answer.Submitted (record { 0 = 39 })) queued store)
+    → Made fresh store (submit (fields_of example_6) [] true 0) (asking (Ok (record { 0 = 39 })) queued store)
 unfolding computed
 submits_39 store = record { promised = record { answers = refl; leaves = refl; next = refl; sound = refl } }
 
 refuses_249 : (store : List ℕ)
-    → Made (in_flight 0) store (submit (fields_of example_6) (zeros 249) false 500) (asking (submit-answer.Refused 4) (in_flight 0) store)
+    → Made (in_flight 0) store (submit (fields_of example_6) (zeros 249) false 500) (asking (Err DataOver) (in_flight 0) store)
 unfolding computed
 refuses_249 store = record { promised = record { answers = refl; leaves = refl; keeps = refl; stores = refl } }
 
@@ -196,32 +192,32 @@ Polls before clock answer after output =
     (store : List ℕ)
     → Made before store (poll (zeros (total max_len)) clock) (poll_result (record { answer = answer; endpoint = after }) store output)
 
-sends_18 : Polls queued 0 (poll-answer.Sent 18) (in_flight 0) (front (total max_len) case_6)
+sends_18 : Polls queued 0 (Ok (outcome.Sent 18)) (in_flight 0) (front (total max_len) case_6)
 unfolding computed
 sends_18 store = record { promised = record { answers = refl; leaves = refl; next = refl; sound = refl } }
 
-rests_1000 : Polls (in_flight 0) 0 (poll-answer.Quiet 1000) (in_flight 0) (zeros (total max_len))
+rests_1000 : Polls (in_flight 0) 0 (Ok (outcome.Quiet (Some 1000))) (in_flight 0) (zeros (total max_len))
 unfolding computed
 rests_1000 store = record { promised = record { answers = refl; leaves = refl; next = refl; sound = refl } }
 
-rests_3000 : Polls (waiting 0) 0 (poll-answer.Quiet 3000) (waiting 0) (zeros (total max_len))
+rests_3000 : Polls (waiting 0) 0 (Ok (outcome.Quiet (Some 3000))) (waiting 0) (zeros (total max_len))
 unfolding computed
 rests_3000 store = record { promised = record { answers = refl; leaves = refl; next = refl; sound = refl } }
 
-rests_1 : Polls (waiting 0) 2999 (poll-answer.Quiet 1) (waiting 2999) (zeros (total max_len))
+rests_1 : Polls (waiting 0) 2999 (Ok (outcome.Quiet (Some 1))) (waiting 2999) (zeros (total max_len))
 unfolding computed
 rests_1 store = record { promised = record { answers = refl; leaves = refl; next = refl; sound = refl } }
 
-ends_39 : Polls (waiting 2999) 3000 (poll-answer.Ended (record { id = record { 0 = 39 }; cause = NoResponse })) (over 3000)
+ends_39 : Polls (waiting 2999) 3000 (Ok (outcome.Ended (record { id = record { 0 = 39 }; cause = NoResponse }))) (over 3000)
     (zeros (total max_len))
 unfolding computed
 ends_39 store = record { promised = record { answers = refl; leaves = refl; next = refl; sound = refl } }
 
-rests : Polls (over 3000) 3000 poll-answer.NoDeadline (over 3000) (zeros (total max_len))
+rests : Polls (over 3000) 3000 (Ok (outcome.Quiet None)) (over 3000) (zeros (total max_len))
 unfolding computed
 rests store = record { promised = record { answers = refl; leaves = refl; next = refl; sound = refl } }
 
-rests_later : Polls (over 3000) 12000 poll-answer.NoDeadline (over 12000) (zeros (total max_len))
+rests_later : Polls (over 3000) 12000 (Ok (outcome.Quiet None)) (over 12000) (zeros (total max_len))
 unfolding computed
 rests_later store = record { promised = record { answers = refl; leaves = refl; next = refl; sound = refl } }
 
@@ -229,7 +225,7 @@ rests_later store = record { promised = record { answers = refl; leaves = refl; 
 abbrev hearing : Option Item → (taken : ℕ) → Endpoint → (store : List ℕ) → Result
 hearing item taken e store =
     receive_result (record {
-      answer = receive-answer.Received (record { item = item; word = word.Nothing; taken = taken; replied = 0; ending = Nobody });
+      answer = Ok (record { item = item; word = word.Nothing; taken = taken; replied = 0; ending = None });
       endpoint = e;
     }) store (zeros (total 0)) (zeros max_data)
 

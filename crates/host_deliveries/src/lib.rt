@@ -17,7 +17,6 @@ ghost use Rattle.host_answers.specs.Code.{reply_for};
 
 use endpoint::Requests;
 use frames::{put_ack, put_nak};
-use host_answers::Ended;
 use ledger::{Ending, Word};
 use live_changes::Change;
 use message::header::DATA_SEQ;
@@ -77,17 +76,16 @@ fn put_data(buffer: &mut [u8], body: &[u8])
 
 // The ending that a change makes. For `host_receiving`, whose change names a row in use: a search has found it.
 // Ruled out: a request that leaves with no ending reported, and an ending with the ID of another.
-pub fn ending_of(live: Requests, change: Change) -> Ended
+pub fn ending_of(live: Requests, change: Change) -> Option<Ending>
     requires { (live.count ≤ live_max) × Names change live.count }
     ensures { (store : List ℕ) → ended_of result ≡ ending_by change (live_of live store) }
 {
     match change {
-        Change::Nothing => Ended::Nobody,
-        Change::Turn(_, _) => Ended::Nobody,
+        Change::Nothing => None,
+        Change::Turn(_, _) => None,
         Change::End(row, cause) => {
-            let q = live.rows[row];
-            let id = q.id;
-            Ended::One(Ending { id, cause })
+            let id = live.rows[row].id;
+            Some(Ending { id, cause })
         }
     }
 }

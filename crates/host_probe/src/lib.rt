@@ -19,11 +19,8 @@ const PIECE: usize = 64;
 pub extern "C" fn fizrahum_probe_submits(rounds: u64, each: u64) -> u64 {
     let mut store = [0; STORE_LENGTH];
     let mut sum = 0;
-    let mut left = rounds;
-    while 0 < left {
-        let done = submit_some(fresh(sum), &mut store, each);
-        sum = done.sum;
-        left -= 1;
+    for _ in 0..rounds {
+        sum = submit_some(fresh(sum), &mut store, each).sum;
     }
     sum
 }
@@ -34,11 +31,8 @@ pub extern "C" fn fizrahum_probe_sends(rounds: u64) -> u64 {
     let mut store = [0; STORE_LENGTH];
     let mut output = [0; OUTPUT_LENGTH];
     let mut sum = 0;
-    let mut left = rounds;
-    while 0 < left {
-        let done = send_three(fresh(sum), &mut store, &mut output);
-        sum = done.sum;
-        left -= 1;
+    for _ in 0..rounds {
+        sum = send_three(fresh(sum), &mut store, &mut output).sum;
     }
     sum
 }
@@ -63,13 +57,10 @@ pub extern "C" fn fizrahum_probe_quiet_polls(polls: u64) -> u64 {
     let start = busy(&mut store, &mut output);
     let mut e = start.endpoint;
     let mut sum = start.sum;
-    let mut left = polls;
-    while 0 < left {
+    for _ in 0..polls {
         let done = poll_once(e, &mut store, &mut output, 0);
-        let answer = done.answer;
         e = done.endpoint;
-        sum = with_poll(sum, answer, &output);
-        left -= 1;
+        sum = with_poll(sum, done.answer, &output);
     }
     sum
 }
@@ -89,10 +80,8 @@ pub extern "C" fn fizrahum_probe_receives(bytes: &[u8]) -> u64 {
     let mut reply = [0; REPLY_LENGTH];
     let mut buffer = [0; MAX_DATA];
     let mut tally = fresh(0);
-    let mut rest = bytes;
-    while PIECE <= rest.len() {
-        tally = hand_in(tally, &mut store, &rest[..PIECE], &mut reply, &mut buffer);
-        rest = &rest[PIECE..];
+    for piece in bytes.chunks_exact(PIECE) {
+        tally = hand_in(tally, &mut store, piece, &mut reply, &mut buffer);
     }
     tally.sum
 }

@@ -2,8 +2,8 @@
 use command::{Fields, MAX_DATA};
 use endpoint::{Endpoint, STORE_LENGTH};
 use host::{open, poll, receive, submit};
-use host_answers::{Ended, PollAnswer, Polled, Receipt, ReceiveAnswer, SubmitAnswer};
-use ledger::Word;
+use host_answers::{PollAnswer, PollOutcome, Polled, Receipt, SubmitAnswer};
+use ledger::{Ending, Word};
 use message::header::{MAX_LEN, OVERHEAD};
 
 // The shortest buffers that no call refuses: a message without a payload, and the longest.
@@ -34,18 +34,15 @@ fn wide(byte: u8) -> u64 {
 }
 
 pub(crate) fn fresh(sum: u64) -> Tally {
-    let opened = open(RESERVED);
-    let endpoint = opened.endpoint;
+    let endpoint = open(RESERVED).endpoint;
     Tally { endpoint, sum }
 }
 
 // So many submits, with 16 bytes of data and a response wanted.
 pub(crate) fn submit_some(tally: Tally, store: &mut [u8; STORE_LENGTH], count: u64) -> Tally {
     let mut tally = tally;
-    let mut left = count;
-    while 0 < left {
+    for _ in 0..count {
         tally = submit_one(tally, store);
-        left -= 1;
     }
     tally
 }
@@ -58,18 +55,17 @@ fn submit_one(tally: Tally, store: &mut [u8; STORE_LENGTH]) -> Tally {
         iid: 1,
         cid: 1,
     };
-    let before = tally.endpoint;
-    let done = submit(before, store, fields, b"0123456789abcdef", true, 0);
-    let answer = done.answer;
-    let endpoint = done.endpoint;
-    let sum = counted(tally.sum, submit_number(answer));
-    Tally { endpoint, sum }
+    let done = submit(tally.endpoint, store, fields, b"0123456789abcdef", true, 0);
+    Tally {
+        endpoint: done.endpoint,
+        sum: counted(tally.sum, submit_number(done.answer)),
+    }
 }
 
 fn submit_number(answer: SubmitAnswer) -> u64 {
     match answer {
-        SubmitAnswer::Refused(number) => number as u64,
-        SubmitAnswer::Submitted(id) => id.0 as u64,
+        Ok(id) => id.0 as u64,
+        Err(refusal) => refusal.number() as u64,
     }
 }
 
@@ -90,12 +86,11 @@ pub(crate) fn poll_at(
     output: &mut [u8; OUTPUT_LENGTH],
     clock: u64,
 ) -> Tally {
-    let before = tally.endpoint;
-    let done = poll_once(before, store, output, clock);
-    let answer = done.answer;
-    let endpoint = done.endpoint;
-    let sum = with_poll(tally.sum, answer, output);
-    Tally { endpoint, sum }
+    let done = poll_once(tally.endpoint, store, output, clock);
+    Tally {
+        endpoint: done.endpoint,
+        sum: with_poll(tally.sum, done.answer, output),
+    }
 }
 
 // The number with the answer of a poll more; of a frame that is sent, its SEQ and the bytes where its checksum stands count too.
@@ -106,11 +101,11 @@ pub(crate) fn with_poll(sum: u64, answer: PollAnswer, output: &[u8; OUTPUT_LENGT
 
 fn poll_number(answer: PollAnswer) -> u64 {
     match answer {
-        PollAnswer::Refused(number) => number as u64,
-        PollAnswer::Sent(len) => len as u64,
-        PollAnswer::Ended(ending) => ending.id.0 as u64,
-        PollAnswer::Quiet(ms) => ms,
-        PollAnswer::NoDeadline => 0,
+        Ok(PollOutcome::Sent(len)) => len as u64,
+        Ok(PollOutcome::Ended(ending)) => ending.id.0 as u64,
+        Ok(PollOutcome::Quiet(Some(ms))) => ms,
+        Ok(PollOutcome::Quiet(None)) => 0,
+        Err(refusal) => refusal.number() as u64,
     }
 }
 
@@ -119,8 +114,7 @@ pub(crate) fn acknowledge(tally: Tally, store: &mut [u8; STORE_LENGTH]) -> Tally
     let mut reply = [0; REPLY_LENGTH];
     let mut buffer = [0; MAX_DATA];
     let ack = b"\xAA\x55\x40\x00\x00\x00\x5C\xEA\xFF\xFF";
-    let done = receive_one(tally, store, ack, &mut reply, &mut buffer);
-    done.tally
+    receive_one(tally, store, ack, &mut reply, &mut buffer).tally
 }
 
 // A piece is handed in, its untaken rest again, until *more*.
@@ -133,8 +127,7 @@ pub(crate) fn hand_in(
 ) -> Tally {
     let mut tally = tally;
     let mut rest = piece;
-    let mut turns = MOST_CALLS;
-    while 0 < turns {
+    for _ in 0..MOST_CALLS {
         let done = receive_one(tally, store, rest, reply, buffer);
         tally = done.tally;
         if done.over {
@@ -145,7 +138,6 @@ pub(crate) fn hand_in(
             return tally;
         }
         rest = &rest[taken..];
-        turns -= 1;
     }
     tally
 }
@@ -165,53 +157,44 @@ fn receive_one(
     reply: &mut [u8; REPLY_LENGTH],
     buffer: &mut [u8; MAX_DATA],
 ) -> Took {
-    let before = tally.endpoint;
-    let done = receive(before, store, bytes, reply, buffer, 0);
-    let answer = done.answer;
+    let done = receive(tally.endpoint, store, bytes, reply, buffer, 0);
     let endpoint = done.endpoint;
     let seen = wide(reply[6]) ^ (wide(buffer[0]) << 8);
-    let ReceiveAnswer::Received(receipt) = answer else {
-        let tally = Tally {
-            endpoint,
-            sum: tally.sum,
-        };
+    let Ok(receipt) = done.answer else {
         return Took {
-            tally,
+            tally: Tally { endpoint, ..tally },
             over: true,
             taken: 0,
         };
     };
     let sum = counted(tally.sum, receipt_number(receipt) ^ (seen << 48));
-    let item = receipt.item;
     Took {
         tally: Tally { endpoint, sum },
-        over: item.is_none(),
+        over: receipt.item.is_none(),
         taken: receipt.taken,
     }
 }
 
 // The bytes taken, the reply's length, a command's request ID and the length of its data, and the ID of a request that ended.
 fn receipt_number(receipt: Receipt) -> u64 {
-    let word = receipt.word;
-    let ending = receipt.ending;
     (receipt.taken as u64)
         ^ ((receipt.replied as u64) << 8)
-        ^ (word_number(word) << 16)
-        ^ (ending_number(ending) << 44)
+        ^ (word_number(receipt.word) << 16)
+        ^ (ending_number(receipt.ending) << 44)
 }
 
-fn ending_number(ending: Ended) -> u64 {
+fn ending_number(ending: Option<Ending>) -> u64 {
     match ending {
-        Ended::Nobody => 0,
-        Ended::One(it) => it.id.0 as u64,
+        None => 0,
+        Some(it) => it.id.0 as u64,
     }
 }
 
 fn word_number(word: Word) -> u64 {
     match word {
-        Word::Event(it) => (it.id.0 as u64) ^ ((it.len as u64) << 16),
-        Word::Response(it) => (it.id.0 as u64) ^ ((it.len as u64) << 16),
-        Word::Unmatched(it) => (it.id.0 as u64) ^ ((it.len as u64) << 16),
+        Word::Event(it) | Word::Response(it) | Word::Unmatched(it) => {
+            (it.id.0 as u64) ^ ((it.len as u64) << 16)
+        }
         _ => 0,
     }
 }

@@ -6,6 +6,7 @@ use mathlib.Core.Path.{◌≡◌, refl, sym, ap, ◌∙◌}
 use lib.Dec.{ltb}
 use lib.ListN.{length, get_or}
 use borrow.Author.Tests.{ltb-false}
+use Rattle.std.specs.Prelude.{Some, None, Ok}
 use Rattle.message.specs.Bytes.{total, max_len}
 use Rattle.message.specs.declared.Seq.{Seq}
 use Rattle.link.specs.Frames as link
@@ -29,7 +30,6 @@ use Rattle.live_changes.specs.Changing.{changed, Becomes}
 use Rattle.live_changes.specs.declared.Change.TheVariants.{Turn, End}
 use Rattle.live_changes.proofs.Becoming.{live_at}
 use Rattle.std.specs.Prelude as std
-use Rattle.std.specs.Prelude.{Some, None}
 use Rattle.live_deadline.specs.Deadlines.{time_of, left_of}
 use Rattle.live_deadline.proofs.Times.{earliest_rows}
 use Rattle.frames.specs.Promises.{Put}
@@ -37,10 +37,11 @@ use Rattle.decisions_poll.specs.Steps.{step_of, sent_from, Reaches, Steps}
 use Rattle.decisions_poll.specs.declared.Step.{Step}
 use Rattle.decisions_poll.specs.declared.Step.TheVariants as step
 use Rattle.refinement.proofs.Sound.{held_of, fits_of}
+use Rattle.host_answers.specs.Answers.{poll_answer_of}
 use Rattle.host_answers.specs.Promises.{Result, poll_result}
 use Rattle.refusals.specs.Code.{with_endpoint}
 use Rattle.host_answers.specs.Code.{Sound, Does}
-use Rattle.host_answers.specs.declared.PollAnswer.TheVariants as answer
+use Rattle.host_answers.specs.declared.PollOutcome.TheVariants as outcome
 use Rattle.host_answers.proofs.Held.{placed_none, held_same}
 use Rattle.refusals.proofs.Table.{passed, own_passed}
 
@@ -51,77 +52,62 @@ polled_endpoint e live seq clock =
 
 module _ (e : Endpoint) (clock : ℕ) (store : List ℕ) (ready : Sound e clock) where
   -- a request ends
-  pub ended : (row : ℕ) (cause : Cause) (live : Requests) (after : Endpoint) (exit output : List ℕ)
+  pub ended : (row : ℕ) (cause : Cause) (live : Requests) (exit output : List ℕ)
       → length e.live.rows ≡ live_max → row < e.live.count
       → Becomes live (changed (End row cause) (live_of e.live store)) store exit
-      → after ≡ polled_endpoint e live e.seq clock
       → Does (polled_as (ledger_of e store) (step_of (step.End row cause) (ledger_of e store) clock) output clock)
       (poll_result (record {
-        answer = answer.Ended (record { id = (get_or e.live.rows row blank_row).id; cause = cause });
-        endpoint = after;
+        answer = Ok (outcome.Ended (record { id = (get_or e.live.rows row blank_row).id; cause = cause }));
+        endpoint = polled_endpoint e live e.seq clock;
       }) exit output)
-  ended row cause live after exit output three less becomes back =
+  ended row cause live exit output three less becomes =
       let held = held_same e.held store exit (held_of e ready.sound) becomes.holds in
       let it = live_at e.live three (fits_of e ready.sound) store row less in
-      rw back (record {
+      record {
         answers = rw it;
         leaves = rw (placed_none output);
         next = rw (becomes.lists, held);
         fits = becomes.fits;
         holds = held_of e ready.sound;
-      })
+      }
 
   -- a frame goes out
-  pub sent : (row : ℕ) (frame : Frame) (next : Seq) (count : ℕ) (live : Requests) (after : Endpoint) (exit output output_exit : List ℕ)
+  pub sent : (row : ℕ) (frame : Frame) (next : Seq) (count : ℕ) (live : Requests) (exit output output_exit : List ℕ)
       → Put count (frame_bytes (at row (live_of e.live store)) frame.seq.0) output output_exit
       → Becomes live (changed (Turn row (InFlight frame)) (live_of e.live store)) store exit
-      → after ≡ polled_endpoint e live next clock
       → Does (polled_as (ledger_of e store) (sent_from (ledger_of e store) clock (frame_of frame) next.0 row) output clock)
-      (poll_result (record { answer = answer.Sent count; endpoint = after }) exit output_exit)
-  sent row frame next count live after exit output output_exit put becomes back =
+      (poll_result (record { answer = Ok (outcome.Sent count); endpoint = polled_endpoint e live next clock }) exit output_exit)
+  sent row frame next count live exit output output_exit put becomes =
       let held = held_same e.held store exit (held_of e ready.sound) becomes.holds in
-      rw back (record {
+      record {
         answers = rw put.counts;
         leaves = rw put.leaves;
         next = rw (becomes.lists, held);
         fits = becomes.fits;
         holds = held_of e ready.sound;
-      })
+      }
 
   -- nothing is due
   rests : (time : std.Option ℕ) → time_of time ≡ left_of clock (earliest (bare_of (rows_of e.live)))
       → time_of time ≡ map (◌- clock) (earliest (live_of e.live store))
   rests time left = left ∙ ap (left_of clock) (sym (earliest_rows (rows_of e.live) 0 store))
 
-  pub quiet_in : (time : std.Option ℕ) (ms : ℕ) (after : Endpoint) (output : List ℕ)
-      → time_of time ≡ left_of clock (earliest (bare_of (rows_of e.live))) → time ≡ Some ms
-      → after ≡ polled_endpoint e e.live e.seq clock
-      → Does (polled_as (ledger_of e store) (step4 (ledger_of e store) clock) output clock)
-      (poll_result (record { answer = answer.Quiet ms; endpoint = after }) store output)
-  quiet_in time ms after output left told back =
-      let some-ms : some ms ≡ map (◌- clock) (earliest (live_of e.live store)) = ap time_of (sym told) ∙ rests time left in
-      rw back (record {
-        answers = ap (λ (t : Option ℕ). polled (quiet t)) some-ms;
-        leaves = rw (placed_none output);
-        next = refl;
-        fits = fits_of e ready.sound;
-        holds = held_of e ready.sound;
-      })
+  shown_quiet : (time : std.Option ℕ) → poll_answer_of (Ok (outcome.Quiet time)) ≡ polled (quiet (time_of time))
+  shown_quiet None = refl
+  shown_quiet (Some ms) = refl
 
-  pub quiet_never : (time : std.Option ℕ) (after : Endpoint) (output : List ℕ)
-      → time_of time ≡ left_of clock (earliest (bare_of (rows_of e.live))) → time ≡ None
-      → after ≡ polled_endpoint e e.live e.seq clock
+  pub quiet_law : (time : std.Option ℕ) (output : List ℕ)
+      → time_of time ≡ left_of clock (earliest (bare_of (rows_of e.live)))
       → Does (polled_as (ledger_of e store) (step4 (ledger_of e store) clock) output clock)
-      (poll_result (record { answer = answer.NoDeadline; endpoint = after }) store output)
-  quiet_never time after output left told back =
-      let none_left : none ≡ map (◌- clock) (earliest (live_of e.live store)) = ap time_of (sym told) ∙ rests time left in
-      rw back (record {
-        answers = ap (λ (t : Option ℕ). polled (quiet t)) none_left;
+      (poll_result (record { answer = Ok (outcome.Quiet time); endpoint = polled_endpoint e e.live e.seq clock }) store output)
+  quiet_law time output left =
+      record {
+        answers = shown_quiet time ∙ ap (λ (t : Option ℕ). polled (quiet t)) (rests time left);
         leaves = rw (placed_none output);
         next = refl;
         fits = fits_of e ready.sound;
         holds = held_of e ready.sound;
-      })
+      }
 
 -- the step that was decided is what the ledger's poll does
 pub stepped : (e : Endpoint) (clock : ℕ) (store output : List ℕ) (s told : Step) (o : Result) → Steps s e.live clock → s ≡ told

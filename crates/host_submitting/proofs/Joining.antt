@@ -32,8 +32,7 @@ use Rattle.refinement.proofs.Sound.{few_of, held_of, fits_of}
 use Rattle.host_answers.specs.Promises.{submit_result}
 use Rattle.refusals.specs.Code.{with_endpoint}
 use Rattle.host_answers.specs.Code.{Sound, Does}
-use Rattle.host_answers.specs.declared.SubmitAnswer.TheVariants as answer
-use Rattle.host_answers.specs.declared.Submitted.{Submitted}
+use Rattle.std.specs.Prelude.{Ok}
 use Rattle.host_answers.proofs.Held.{held_same}
 use Rattle.refusals.proofs.Table.{first_holds, passed, own_passed}
 
@@ -64,23 +63,22 @@ module _ (e : Endpoint) (fields : Fields) (wanted : Bool) (clock : ℕ) (store b
     held = e.held;
   }
 
-  pub joined : (id next : RequestId) (live : Requests) (after : Endpoint) (exit : List ℕ)
+  pub joined : (id next : RequestId) (live : Requests) (exit : List ℕ)
       → id.0 ≡ first_free e.live.count e.reserved (bare_of (rows_of e.live)) e.next.0
       → Becomes live (live_of e.live store ++ (request_of (joining id) bytes ∷ [])) store exit
       → next.0 ≡ id_after e.reserved id.0
-      → after ≡ handed_back id next live
       → Does (submit (ledger_of e store) (fields_of fields) bytes wanted clock)
-      (submit_result (record { answer = answer.Submitted id; endpoint = after }) exit)
-  joined id next live after exit found becomes later back =
+      (submit_result (record { answer = Ok id; endpoint = handed_back id next live }) exit)
+  joined id next live exit found becomes later =
       let same = found_id id found in
       let held = held_same e.held store exit (held_of e ready.sound) becomes.holds in
-      rw back (record {
+      record {
         answers = rw same;
         leaves = refl;
         next = rw (becomes.lists, later, held, same);
         fits = becomes.fits;
         holds = held_of e ready.sound;
-      })
+      }
 
 -- the ID was looked for in the rows in use, which are as many as are counted
 pub free_in_use : (e : Endpoint) → length e.live.rows ≡ live_max → {clock : ℕ} → Sound e clock → (rows : List Request) → rows ≡ rows_of e.live

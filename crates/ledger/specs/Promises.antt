@@ -1,9 +1,12 @@
 -- The paper's values for the enums and the structs that an endpoint answers.
+use Rattle.std.specs.Prelude.{ℕ}
 use Rattle.ledger.specs.Answers as spec
 use Rattle.ledger.specs.declared.Cause.{Cause}
 use Rattle.ledger.specs.declared.Cause.TheVariants.{Acknowledged, Response, NoResponse, NoAcknowledgement}
 use Rattle.ledger.specs.declared.Ending.{Ending}
 use Rattle.ledger.specs.declared.Command.{Command}
+use Rattle.ledger.specs.declared.Refusal.{Refusal}
+use Rattle.ledger.specs.declared.Refusal.TheVariants.{Malformed, ClockBelow, ReservedOver, DataOver, AllLive, BufferShort}
 use Rattle.ledger.specs.declared.Word.{Word}
 use Rattle.ledger.specs.declared.Word.TheVariants as word
 use Rattle.command.specs.Promises.{fields_of}
@@ -32,3 +35,12 @@ word_of word.NotCommand = spec.not_command
 word_of (word.Event c) = spec.event (command_of c)
 word_of (word.Response c) = spec.Word.response (command_of c)
 word_of (word.Unmatched c) = spec.unmatched (command_of c)
+
+-- "Refusal numbers, tested in this order"
+abbrev pub number_of : Refusal → ℕ
+number_of Malformed = 1
+number_of ClockBelow = 2
+number_of ReservedOver = 3
+number_of DataOver = 4
+number_of AllLive = 5
+number_of BufferShort = 6

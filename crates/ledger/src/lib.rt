@@ -2,6 +2,9 @@
 // endpoint and its callers share; a request's ID and its command's fields are those of `command`.
 #![tactic(auto)]
 
+ghost use Rattle.std.specs.Prelude.{◌≡◌};
+ghost use Rattle.ledger.specs.Promises.{number_of};
+
 use command::{Fields, RequestId};
 
 // Why a request ended: its frame was acknowledged and no response was wanted, its response came, none came in 3,000 ms, or its
@@ -39,4 +42,33 @@ pub enum Word {
     Event(Command),
     Response(Command),
     Unmatched(Command),
+}
+
+// Why a call is refused, by the table of document 01 and in its order: endpoint malformed, clock below the last accepted reading, R over
+// 255, data over 248 bytes, three live, a lent buffer too short.
+#[derive(Clone, Copy, PartialEq, Eq)]
+pub enum Refusal {
+    Malformed,
+    ClockBelow,
+    ReservedOver,
+    DataOver,
+    AllLive,
+    BufferShort,
+}
+
+impl Refusal {
+    // Its number in the table.
+    // Ruled out: numbers from 0, and one number for two lines.
+    pub fn number(self) -> u8
+        ensures { result ≡ number_of self }
+    {
+        match self {
+            Refusal::Malformed => 1,
+            Refusal::ClockBelow => 2,
+            Refusal::ReservedOver => 3,
+            Refusal::DataOver => 4,
+            Refusal::AllLive => 5,
+            Refusal::BufferShort => 6,
+        }
+    }
 }

@@ -5,34 +5,34 @@
 ghost use Rattle.std.specs.Prelude.{◌≡◌};
 ghost use Rattle.lent_lengths.specs.Lengths.{handed_by, reply_length, data_length, frame_length};
 
-use host_answers::{PollAnswer, ReceiveAnswer};
+use host_answers::{PollAnswer, PollOutcome, ReceiveAnswer};
 use ledger::Word;
 
 // How many bytes of the reply buffer a receive says it has put. Public for `runner`.
 // Ruled out: bytes said of a refused call, and the bytes taken in place of the reply.
+#[tactic(auto, unfolding(crate::specs::Lengths::reply_length))]
 pub fn reply_length(answer: ReceiveAnswer) -> usize
     ensures { result ≡ reply_length answer }
 {
     match answer {
-        ReceiveAnswer::Refused(_) => 0,
-        ReceiveAnswer::Received(receipt) => receipt.replied,
+        Ok(receipt) => receipt.replied,
+        Err(_) => 0,
     }
 }
 
 // How many bytes of the data buffer. Public for `runner`.
 // Ruled out: bytes said of an unmatched command, and none said of an event.
+#[tactic(auto, unfolding(crate::specs::Lengths::data_length))]
 pub fn data_length(answer: ReceiveAnswer) -> usize
     ensures { result ≡ data_length answer }
 {
     match answer {
-        ReceiveAnswer::Refused(_) => 0,
-        ReceiveAnswer::Received(receipt) => {
-            let word = receipt.word;
-            handed_by(word)
-        }
+        Ok(receipt) => handed_by(receipt.word),
+        Err(_) => 0,
     }
 }
 
+#[tactic(auto, unfolding(crate::specs::Lengths::handed_by))]
 fn handed_by(word: Word) -> usize
     ensures { result ≡ handed_by word }
 {
@@ -49,14 +49,14 @@ fn handed_by(word: Word) -> usize
 
 // How many bytes of the output a poll says it has put. Public for `runner`.
 // Ruled out: a byte said where nothing was sent, and the time of a quiet poll in place of a length.
+#[tactic(auto, unfolding(crate::specs::Lengths::frame_length))]
 pub fn frame_length(answer: PollAnswer) -> usize
     ensures { result ≡ frame_length answer }
 {
     match answer {
-        PollAnswer::Refused(_) => 0,
-        PollAnswer::Sent(len) => len,
-        PollAnswer::Ended(_) => 0,
-        PollAnswer::Quiet(_) => 0,
-        PollAnswer::NoDeadline => 0,
+        Ok(PollOutcome::Sent(len)) => len,
+        Ok(PollOutcome::Ended(_)) => 0,
+        Ok(PollOutcome::Quiet(_)) => 0,
+        Err(_) => 0,
     }
 }

@@ -4,6 +4,7 @@ use command::Fields;
 use endpoint::{Endpoint, STORE_LENGTH};
 use host::{poll, receive, submit};
 use host_answers::{PollAnswer, ReceiveAnswer, SubmitAnswer};
+use ledger::Refusal;
 use std::io;
 
 // The line of an endpoint, with calls that nothing is wrong with but the endpoint.
@@ -37,8 +38,8 @@ pub(crate) fn print_refusals(rt: &impl Print, what: &str, e: Endpoint) -> io::Re
     println!(rt; "")
 }
 
-// Submit: a refusal's number, 0 where it is accepted.
-fn submitted(e: Endpoint, data: &[u8], clock: u64) -> u8 {
+// What submit answers.
+fn submitted(e: Endpoint, data: &[u8], clock: u64) -> SubmitAnswer {
     let mut store = [0; STORE_LENGTH];
     let fields = Fields {
         tc: 0,
@@ -47,39 +48,25 @@ fn submitted(e: Endpoint, data: &[u8], clock: u64) -> u8 {
         iid: 0,
         cid: 0,
     };
-    let done = submit(e, &mut store, fields, data, false, clock);
-    let answer = done.answer;
-    match answer {
-        SubmitAnswer::Refused(number) => number,
-        SubmitAnswer::Submitted(_) => 0,
-    }
+    submit(e, &mut store, fields, data, false, clock).answer
 }
 
-// Receive of no bytes: a refusal's number, 0 where it is accepted.
-fn received(e: Endpoint, reply: &mut [u8], buffer: &mut [u8], clock: u64) -> u8 {
+// What a receive of no bytes answers.
+fn received(e: Endpoint, reply: &mut [u8], buffer: &mut [u8], clock: u64) -> ReceiveAnswer {
     let mut store = [0; STORE_LENGTH];
-    let done = receive(e, &mut store, b"", reply, buffer, clock);
-    let answer = done.answer;
-    match answer {
-        ReceiveAnswer::Refused(number) => number,
-        ReceiveAnswer::Received(_) => 0,
-    }
+    receive(e, &mut store, b"", reply, buffer, clock).answer
 }
 
-// Poll: a refusal's number, 0 where it is accepted.
-fn polled(e: Endpoint, output: &mut [u8], clock: u64) -> u8 {
+// What poll answers.
+fn polled(e: Endpoint, output: &mut [u8], clock: u64) -> PollAnswer {
     let mut store = [0; STORE_LENGTH];
-    let done = poll(e, &mut store, output, clock);
-    let answer = done.answer;
-    match answer {
-        PollAnswer::Refused(number) => number,
-        _ => 0,
-    }
+    poll(e, &mut store, output, clock).answer
 }
 
-fn print_number(rt: &impl Print, number: u8) -> io::Result<()> {
-    if number == 0 {
-        return print!(rt; "accepted");
+// A refusal's number, or that the call is accepted.
+fn print_number<T: Drop>(rt: &impl Print, answer: Result<T, Refusal>) -> io::Result<()> {
+    match answer {
+        Ok(_) => print!(rt; "accepted"),
+        Err(refusal) => print!(rt; "{}", refusal.number()),
     }
-    print!(rt; "{number}")
 }

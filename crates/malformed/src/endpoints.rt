@@ -1,6 +1,6 @@
 // An endpoint that meets every limit of the malformed rule exactly, and changes of it.
 use command::{Fields, RequestId};
-use endpoint::{Endpoint, LIVE_MAX, Request, Requests, State};
+use endpoint::{Endpoint, Request, Requests, State};
 use link::frame::Frame;
 use link::repeats::Seen;
 use message::Seq;
@@ -61,33 +61,19 @@ pub(crate) fn flight(transmissions: u8, sent: u64) -> State {
 
 pub(crate) fn with_id(q: Request, id: u16) -> Request {
     let id = RequestId(id);
-    let mut it = q;
-    it.id = id;
-    it
+    Request { id, ..q }
 }
 
 pub(crate) fn with_state(q: Request, state: State) -> Request {
-    let id = q.id;
-    let fields = q.fields;
-    Request {
-        id,
-        fields,
-        wanted: q.wanted,
-        len: q.len,
-        state,
-    }
+    Request { state, ..q }
 }
 
 pub(crate) fn with_len(q: Request, len: usize) -> Request {
-    let mut it = q;
-    it.len = len;
-    it
+    Request { len, ..q }
 }
 
 pub(crate) fn unwanted(q: Request) -> Request {
-    let mut it = q;
-    it.wanted = false;
-    it
+    Request { wanted: false, ..q }
 }
 
 // The endpoint with another first request.
@@ -107,12 +93,9 @@ pub(crate) fn with_third(q: Request) -> Endpoint {
 
 // An endpoint with these three live.
 pub(crate) fn of_rows(a: Request, b: Request, c: Request) -> Endpoint {
-    let mut rows = [a; LIVE_MAX];
-    rows[1] = b;
-    rows[2] = c;
-    let live = Requests { rows, count: 3 };
+    let rows = [a, b, c];
     Endpoint {
-        live,
+        live: Requests { rows, count: 3 },
         reserved: 255,
         clock: CLOCK,
         seq: Seq(1),
@@ -123,28 +106,19 @@ pub(crate) fn of_rows(a: Request, b: Request, c: Request) -> Endpoint {
 }
 
 pub(crate) fn with_reserved(e: Endpoint, reserved: u64) -> Endpoint {
-    let mut it = e;
-    it.reserved = reserved;
-    it
+    Endpoint { reserved, ..e }
 }
 
 pub(crate) fn with_next(e: Endpoint, id: u16) -> Endpoint {
     let next = RequestId(id);
-    let mut it = e;
-    it.next = next;
-    it
+    Endpoint { next, ..e }
 }
 
 pub(crate) fn with_held(e: Endpoint, held: usize) -> Endpoint {
-    let mut it = e;
-    it.held = held;
-    it
+    Endpoint { held, ..e }
 }
 
 pub(crate) fn with_count(e: Endpoint, count: usize) -> Endpoint {
-    let mut live = e.live;
-    live.count = count;
-    let mut it = e;
-    it.live = live;
-    it
+    let live = Requests { count, ..e.live };
+    Endpoint { live, ..e }
 }

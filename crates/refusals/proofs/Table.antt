@@ -3,15 +3,13 @@ use Prim.Native.Nat.{ℕ}
 use mathlib.Core.Bool.{Bool, true, false}
 use mathlib.Core.List.{List, [], ◌∷◌}
 use mathlib.Core.Option.{none, some}
-use mathlib.Core.Path.{◌≡◌, refl, sym, ◌∙◌}
+use mathlib.Core.Path.{◌≡◌, refl}
 use native.Mathlib.Omega.{arith}
 use lib.Dec.{ltb}
 use Rattle.ledger.specs.Refusals.{Line, line, first_of}
 use Rattle.endpoint.specs.Malformed.{malformed}
 use Rattle.endpoint.specs.declared.Endpoint.{Endpoint}
-use Rattle.refusals.specs.Code.{check_of, with_endpoint}
-use Rattle.refusals.specs.declared.Check.{Check}
-use Rattle.refusals.specs.declared.Check.TheVariants.{Refused, Accepted}
+use Rattle.refusals.specs.Code.{with_endpoint}
 
 -- what a test of a line says
 pub first_holds : (n : ℕ) (b : Bool) (rest : List Line) → b ≡ true → first_of (line n b ∷ rest) ≡ some n
@@ -74,12 +72,3 @@ one_passed n false rest h = (refl, h)
 
 pub own_passed : (n : ℕ) (b : Bool) (rest : List Line) → first_of (line n b ∷ rest) ≡ none → (b ≡ false) × (first_of rest ≡ none)
 own_passed n b rest h = one_passed n b rest h
-
--- the check of the first two lines, before a call's own
-module _ (r : Check) (e : Endpoint) (clock : ℕ) (own : List Line) (said : check_of r ≡ first_of (with_endpoint e clock [])) where
-  pub refused_check : {n : ℕ} → r ≡ Refused n → check_of r ≡ first_of (with_endpoint e clock own)
-  refused_check {n} h =
-      let refused : check_of r ≡ some n = rw h in refused ∙ sym (refused_first e clock own n (sym said ∙ refused))
-
-  pub accepted_check : r ≡ Accepted → first_of (with_endpoint e clock own) ≡ first_of own
-  accepted_check h = let fine : check_of r ≡ none = rw h in passed_first e clock own (sym said ∙ fine)

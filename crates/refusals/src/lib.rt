@@ -12,93 +12,63 @@ ghost use Rattle.refusals.specs.Code.{check_of, with_endpoint};
 use command::MAX_DATA;
 use command::writer::is_too_long;
 use endpoint::{Endpoint, LIVE_MAX};
+use ledger::Refusal;
 use malformed_rule::is_malformed;
 use message::header::{MAX_LEN, OVERHEAD};
 
-// The refusal numbers, by the table of document 01: endpoint malformed, clock below the last accepted reading, R over 255, data over 248
-// bytes, three live, a lent buffer too short.
-pub const MALFORMED: u8 = 1;
-
-pub const CLOCK_BELOW: u8 = 2;
-
-pub const RESERVED_OVER: u8 = 3;
-
-pub const DATA_OVER: u8 = 4;
-
-pub const ALL_LIVE: u8 = 5;
-
-pub const BUFFER_SHORT: u8 = 6;
-
-// What the table says: a refusal's number, or that the call is accepted.
-#[derive(Drop)]
-pub enum Check {
-    Refused(u8),
-    Accepted,
-}
-
 // The lines of every call with a clock, 1 and 2.
-fn check_endpoint(e: Endpoint, clock: u64) -> Check
+fn check_endpoint(e: Endpoint, clock: u64) -> Result<(), Refusal>
     ensures { check_of result ≡ first_of (with_endpoint e clock []) }
 {
     if is_malformed(e) {
-        return Check::Refused(MALFORMED);
+        return Err(Refusal::Malformed);
     }
     if clock < e.clock {
-        return Check::Refused(CLOCK_BELOW);
+        return Err(Refusal::ClockBelow);
     }
-    Check::Accepted // neither 1 nor 2
+    Ok(()) // neither 1 nor 2
 }
 
 // Submit: 1, 2, then "data over 248 bytes" and "three live".
 // Ruled out: 5 before 4, and a fourth live request let through.
-pub fn check_submit(e: Endpoint, len: usize, clock: u64) -> Check
+pub fn check_submit(e: Endpoint, len: usize, clock: u64) -> Result<(), Refusal>
     ensures { check_of result
         ≡ first_of (with_endpoint e clock (line 4 (ltb max_data len) ∷ line 5 (eqb e.live.count live_max) ∷ [])) }
 {
-    let check = check_endpoint(e, clock);
-    let Check::Accepted = check else {
-        return check;
-    };
+    check_endpoint(e, clock)?;
     if is_too_long(len) {
-        return Check::Refused(DATA_OVER);
+        return Err(Refusal::DataOver);
     }
-    let live = e.live;
-    if live.count == LIVE_MAX {
-        return Check::Refused(ALL_LIVE);
+    if e.live.count == LIVE_MAX {
+        return Err(Refusal::AllLive);
     }
-    Check::Accepted
+    Ok(())
 }
 
 // Receive: 1, 2, then "reply buffer under 10 or data buffer under 248".
 // Ruled out: a reply buffer of 9 let through, and a data buffer of 248 refused.
-pub fn check_receive(e: Endpoint, reply: usize, buffer: usize, clock: u64) -> Check
+pub fn check_receive(e: Endpoint, reply: usize, buffer: usize, clock: u64) -> Result<(), Refusal>
     ensures { check_of result
         ≡ first_of (with_endpoint e clock (line 6 (ltb reply (total 0) || ltb buffer max_data) ∷ [])) }
 {
-    let check = check_endpoint(e, clock);
-    let Check::Accepted = check else {
-        return check;
-    };
+    check_endpoint(e, clock)?;
     if reply < OVERHEAD {
-        return Check::Refused(BUFFER_SHORT);
+        return Err(Refusal::BufferShort);
     }
     if buffer < MAX_DATA {
-        return Check::Refused(BUFFER_SHORT);
+        return Err(Refusal::BufferShort);
     }
-    Check::Accepted
+    Ok(())
 }
 
 // Poll: 1, 2, then "output buffer under 266".
 // Ruled out: an output of 265 let through, and 6 before 2.
-pub fn check_poll(e: Endpoint, output: usize, clock: u64) -> Check
+pub fn check_poll(e: Endpoint, output: usize, clock: u64) -> Result<(), Refusal>
     ensures { check_of result ≡ first_of (with_endpoint e clock (line 6 (ltb output (total max_len)) ∷ [])) }
 {
-    let check = check_endpoint(e, clock);
-    let Check::Accepted = check else {
-        return check;
-    };
+    check_endpoint(e, clock)?;
     if output < OVERHEAD + MAX_LEN {
-        return Check::Refused(BUFFER_SHORT);
+        return Err(Refusal::BufferShort);
     }
-    Check::Accepted
+    Ok(())
 }

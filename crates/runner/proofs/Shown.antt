@@ -5,12 +5,11 @@ use mathlib.Core.List.{List}
 use mathlib.Core.Path.{◌≡◌, sym}
 use native.Mathlib.Omega.{arith}
 use lib.ListN.{length, take, drop, length-take}
-use Rattle.host_answers.specs.declared.PollAnswer.{PollAnswer}
-use Rattle.host_answers.specs.declared.ReceiveAnswer.{ReceiveAnswer}
 use Rattle.script.specs.Limits.{lent_max}
 use Rattle.texts.proofs.Putting.{behind, wider}
 use Rattle.transcript.specs.Lines.{receive_text, poll_text, end_text, receive_room, poll_room, end_room}
 use Rattle.texts.specs.Text.{Puts}
+use Rattle.host_answers.specs.Answers.{ReceiveAnswer, PollAnswer}
 use Rattle.lent_lengths.specs.Lengths.{reply_length, data_length, frame_length}
 use Rattle.runner.specs.Lent.{touched, receive_line, poll_line}
 use Rattle.runner.specs.Room.{line_room}

@@ -1,8 +1,7 @@
 -- The lines of receive and poll, from the answer and the lent buffers as the call left them (docs/SESSION-SCRIPT.md).
 use Rattle.std.specs.Prelude.{ℕ, Bool, not, ◌||◌, List, ◌++◌, ◌==◌, take, drop}
 use Rattle.std.specs.List.{list_any}
-use Rattle.host_answers.specs.declared.ReceiveAnswer.{ReceiveAnswer}
-use Rattle.host_answers.specs.declared.PollAnswer.{PollAnswer}
+use Rattle.host_answers.specs.Answers.{ReceiveAnswer, PollAnswer}
 use Rattle.lent_lengths.specs.Lengths.{reply_length, data_length, frame_length}
 use Rattle.transcript.specs.Lines.{receive_text, poll_text, end_text}
 

@@ -1,21 +1,15 @@
 -- The answer to each call as text (docs/SESSION-SCRIPT.md), in the order of the answer's parts.
-use Rattle.std.specs.Prelude.{ℕ, ◌+◌, Bool, true, false, List, ◌++◌, length, Option, None, Some}
+use Rattle.std.specs.Prelude.{ℕ, ◌+◌, Bool, true, false, List, ◌++◌, Option, Some, None, Ok, Err, length}
 use Rattle.message.specs.declared.Item.{Item}
 use Rattle.message.specs.declared.Item.TheVariants.{DamagedHeader, Forbidden, DamagedPayload, Message}
-use Rattle.host_answers.specs.declared.OpenAnswer.{OpenAnswer}
-use Rattle.host_answers.specs.declared.OpenAnswer.TheVariants as opening
-use Rattle.host_answers.specs.declared.SubmitAnswer.{SubmitAnswer}
-use Rattle.host_answers.specs.declared.SubmitAnswer.TheVariants as submitting
 use Rattle.ledger.specs.declared.Command.{Command}
 use Rattle.ledger.specs.declared.Word.{Word}
 use Rattle.ledger.specs.declared.Word.TheVariants as words
-use Rattle.host_answers.specs.declared.Ended.{Ended}
-use Rattle.host_answers.specs.declared.Ended.TheVariants as endings
+use Rattle.ledger.specs.declared.Ending.{Ending}
+use Rattle.ledger.specs.Promises.{number_of}
+use Rattle.host_answers.specs.Answers.{OpenAnswer, SubmitAnswer, ReceiveAnswer, PollAnswer}
 use Rattle.host_answers.specs.declared.Receipt.{Receipt}
-use Rattle.host_answers.specs.declared.ReceiveAnswer.{ReceiveAnswer}
-use Rattle.host_answers.specs.declared.ReceiveAnswer.TheVariants as receiving
-use Rattle.host_answers.specs.declared.PollAnswer.{PollAnswer}
-use Rattle.host_answers.specs.declared.PollAnswer.TheVariants as polling
+use Rattle.host_answers.specs.declared.PollOutcome.TheVariants as outcome
 use Rattle.texts.specs.Text.{ascii, named, shown_as, pairs_room}
 use Rattle.transcript_parts.specs.Parts.{fields_text, ending_text}
 
@@ -50,19 +44,19 @@ unfoldable pub lent_text : List ℕ → ℕ → List ℕ → List ℕ
 lent_text name len bytes = named name len ++ (ascii " " ++ shown_as bytes)
 
 -- the ending that a receive reports
-unfoldable pub ended_text : Ended → List ℕ
-ended_text endings.Nobody = ascii " no-ending"
-ended_text (endings.One e) = ascii " " ++ ending_text e
+unfoldable pub ended_text : Option Ending → List ℕ
+ended_text None = ascii " no-ending"
+ended_text (Some e) = ascii " " ++ ending_text e
 
 -- open
 unfoldable pub open_text : OpenAnswer → List ℕ
-open_text (opening.Refused n) = named (ascii "open refused ") n
-open_text opening.Opened = ascii "opened"
+open_text (Ok done) = ascii "opened"
+open_text (Err r) = named (ascii "open refused ") (number_of r)
 
 -- submit
 unfoldable pub submit_text : SubmitAnswer → List ℕ
-submit_text (submitting.Refused n) = named (ascii "submit refused ") n
-submit_text (submitting.Submitted id) = named (ascii "submitted ") id.0
+submit_text (Ok id) = named (ascii "submitted ") id.0
+submit_text (Err r) = named (ascii "submit refused ") (number_of r)
 
 -- receive: the item and the word
 unfoldable pub judged_text : Option Item → Word → List ℕ
@@ -78,16 +72,16 @@ receipt_text r reply bytes =
     ++ ended_text r.ending)))
 
 unfoldable pub receive_text : ReceiveAnswer → List ℕ → List ℕ → List ℕ
-receive_text (receiving.Refused n) reply bytes = named (ascii "receive refused ") n
-receive_text (receiving.Received r) reply bytes = receipt_text r reply bytes
+receive_text (Ok r) reply bytes = receipt_text r reply bytes
+receive_text (Err r) reply bytes = named (ascii "receive refused ") (number_of r)
 
 -- poll
 unfoldable pub poll_text : PollAnswer → List ℕ → List ℕ
-poll_text (polling.Refused n) frame = named (ascii "poll refused ") n
-poll_text (polling.Sent len) frame = lent_text (ascii "sent ") len frame
-poll_text (polling.Ended e) frame = ending_text e
-poll_text (polling.Quiet ms) frame = named (ascii "quiet ") ms
-poll_text polling.NoDeadline frame = ascii "no-deadline"
+poll_text (Ok (outcome.Sent len)) frame = lent_text (ascii "sent ") len frame
+poll_text (Ok (outcome.Ended e)) frame = ending_text e
+poll_text (Ok (outcome.Quiet (Some ms))) frame = named (ascii "quiet ") ms
+poll_text (Ok (outcome.Quiet None)) frame = ascii "no-deadline"
+poll_text (Err r) frame = named (ascii "poll refused ") (number_of r)
 
 -- the end of a line, and whether bytes were touched that should not have been
 unfoldable pub end_text : Bool → List ℕ

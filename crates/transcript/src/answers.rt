@@ -7,7 +7,7 @@ ghost use Rattle.transcript.specs.Lines.{open_room, submit_room, judged_room, re
 
 use crate::parts::{put_ended, put_item, put_lent, put_word};
 use arrayvec::ArrayVec;
-use host_answers::{OpenAnswer, PollAnswer, Receipt, ReceiveAnswer, SubmitAnswer};
+use host_answers::{OpenAnswer, PollAnswer, PollOutcome, Receipt, ReceiveAnswer, SubmitAnswer};
 use ledger::Word;
 use message::Item;
 use texts::{put, put_named};
@@ -20,8 +20,8 @@ pub fn put_opened<const N: usize>(out: &mut ArrayVec<u8, N>, answer: OpenAnswer)
     ensures { Puts open_room (open_text answer) out.old.items out.new.items }
 {
     match answer {
-        OpenAnswer::Refused(number) => put_named(out, b"open refused ", number as u64),
-        OpenAnswer::Opened => put(out, b"opened"),
+        Ok(()) => put(out, b"opened"),
+        Err(refusal) => put_named(out, b"open refused ", refusal.number() as u64),
     }
 }
 
@@ -32,8 +32,8 @@ pub fn put_submitted<const N: usize>(out: &mut ArrayVec<u8, N>, answer: SubmitAn
     ensures { Puts submit_room (submit_text answer) out.old.items out.new.items }
 {
     match answer {
-        SubmitAnswer::Refused(number) => put_named(out, b"submit refused ", number as u64),
-        SubmitAnswer::Submitted(id) => put_named(out, b"submitted ", id.0 as u64),
+        Ok(id) => put_named(out, b"submitted ", id.0 as u64),
+        Err(refusal) => put_named(out, b"submit refused ", refusal.number() as u64),
     }
 }
 
@@ -49,8 +49,8 @@ pub fn put_received<const N: usize>(
     ensures { Puts (receive_room reply.now handed.now) (receive_text answer reply.now handed.now) out.old.items out.new.items }
 {
     match answer {
-        ReceiveAnswer::Refused(number) => put_named(out, b"receive refused ", number as u64),
-        ReceiveAnswer::Received(receipt) => put_receipt(out, receipt, reply, handed),
+        Ok(receipt) => put_receipt(out, receipt, reply, handed),
+        Err(refusal) => put_named(out, b"receive refused ", refusal.number() as u64),
     }
 }
 
@@ -91,11 +91,11 @@ pub fn put_polled<const N: usize>(out: &mut ArrayVec<u8, N>, answer: PollAnswer,
     ensures { Puts (poll_room frame.now) (poll_text answer frame.now) out.old.items out.new.items }
 {
     match answer {
-        PollAnswer::Refused(number) => put_named(out, b"poll refused ", number as u64),
-        PollAnswer::Sent(len) => put_lent(out, b"sent ", len, frame),
-        PollAnswer::Ended(ending) => put_ending(out, ending),
-        PollAnswer::Quiet(ms) => put_named(out, b"quiet ", ms),
-        PollAnswer::NoDeadline => put(out, b"no-deadline"),
+        Ok(PollOutcome::Sent(len)) => put_lent(out, b"sent ", len, frame),
+        Ok(PollOutcome::Ended(ending)) => put_ending(out, ending),
+        Ok(PollOutcome::Quiet(Some(ms))) => put_named(out, b"quiet ", ms),
+        Ok(PollOutcome::Quiet(None)) => put(out, b"no-deadline"),
+        Err(refusal) => put_named(out, b"poll refused ", refusal.number() as u64),
     }
 }
 

@@ -5,8 +5,7 @@ ghost use Rattle.transcript.specs.Lines.{one_text, item_text, command_text, word
 ghost use Rattle.transcript.specs.Lines.{item_room, command_room, word_room, lent_room, ended_room};
 
 use arrayvec::ArrayVec;
-use host_answers::Ended;
-use ledger::{Command, Word};
+use ledger::{Command, Ending, Word};
 use message::{Item, Seq};
 use texts::{put, put_bytes, put_named, put_spaced};
 use transcript_parts::{put_ending, put_fields};
@@ -95,13 +94,13 @@ pub(crate) fn put_lent<const N: usize>(
 
 // The ending that a receive reports, if any.
 #[tactic(auto, unfolding(crate::specs::Lines::ended_text))]
-pub(crate) fn put_ended<const N: usize>(out: &mut ArrayVec<u8, N>, ended: Ended)
+pub(crate) fn put_ended<const N: usize>(out: &mut ArrayVec<u8, N>, ended: Option<Ending>)
     requires { length out.old.items + ended_room ≤ N }
     ensures { Puts ended_room (ended_text ended) out.old.items out.new.items }
 {
     match ended {
-        Ended::Nobody => put(out, b" no-ending"),
-        Ended::One(ending) => {
+        None => put(out, b" no-ending"),
+        Some(ending) => {
             put(out, b" ");
             put_ending(out, ending);
         }

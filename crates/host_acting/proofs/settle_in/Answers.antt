@@ -7,15 +7,15 @@ use Rattle.host_answers.proofs.Held.{length_front, first_lent, rest_lent}
 use Rattle.host_acting.proofs.settle_in.Goals as goal
 
 pub slice_bounds-settle-end-2 : goal.slice_bounds-settle-end-2
-slice_bounds-settle-end-2 c = sym (length_front c.args.store.now c.requires.0)
+slice_bounds-settle-end-2 c = sym (length_front c.args.store.now c.told-store)
 
 pub settle-requires : goal.settle-requires
-settle-requires c = rw (length_front c.args.store.now c.requires.0) c.requires.1
+settle-requires c = rw (length_front c.args.store.now c.told-store) c.requires
 
 pub returns : goal.returns
 returns c =
     let settled = c.settle.ensures in
     let size : length c.settle.new.array ≡ held_max =
-    omega (arith, length_front c.args.store.now c.requires.0) in
+    omega (arith, length_front c.args.store.now c.told-store) in
     let first = first_lent _ c.args.store.now size c.settle.result (omega arith) in
     (settled.0, first ∙ settled.1, rest_lent c.settle.new.array c.args.store.now size)

@@ -4,18 +4,18 @@ use Rattle.refinement.proofs.Sound.{few_of, fits_of}
 use Rattle.host_sending.proofs.Stepping.{ended}
 use Rattle.host_polling.proofs.end.Goals as goal
 
-pub offset_bounds-rows-row : goal.offset_bounds-rows-row
-offset_bounds-rows-row c = let few = few_of c.args.e c.requires.0.0.sound in omega arith
+pub offset_bounds-e-row : goal.offset_bounds-e-row
+offset_bounds-e-row c = let few = few_of c.args.e c.requires.0.sound in omega arith
 
-pub bounds-rows-row : goal.bounds-rows-row
-bounds-rows-row c = let few = few_of c.args.e c.requires.0.0.sound in omega arith
+pub bounds-e-row : goal.bounds-e-row
+bounds-e-row c = let few = few_of c.args.e c.requires.0.sound in omega arith
 
 pub carry_out-live-requires : goal.carry_out-live-requires
-carry_out-live-requires c = (c.requires.0.1, fits_of c.args.e c.requires.0.0.sound, c.requires.1)
+carry_out-live-requires c = (c.told-store, fits_of c.args.e c.requires.0.sound, c.requires.1)
 
 pub returns : goal.returns
 returns c =
     let a = c.args in
     λ output.
-    ended a.e a.clock a.store.now c.requires.0.0 a.row a.cause c.carry_out-live.result c.after.result
-    c.carry_out-live.new.store output c.well_formed.0.1.1.0.1.1.0.1.0.1 c.requires.1 c.carry_out-live.ensures c.after.ensures
+    ended a.e a.clock a.store.now c.requires.0 a.row a.cause c.carry_out-live.result
+    c.carry_out-live.new.store output c.well_formed.0.1.1.0.1.1.0.1.0.1 c.requires.1 c.carry_out-live.ensures

@@ -1,62 +1,44 @@
 -- `host_receiving::accept` meets its contract: by what the line decided.
-use Prim.Native.Nat.{◌+◌, ◌≤◌}
-use mathlib.Core.Path.{◌≡◌, refl, sym, ap, ◌∙◌}
+use mathlib.Core.Path.{refl, ap, ◌∙◌}
 use native.Mathlib.Omega.{arith}
-use lib.ListN.{length}
 use Rattle.std.specs.Prelude.{Some}
-use Rattle.line.specs.Receiving.{held_max}
-use Rattle.endpoint.specs.Endpoint.{store_length}
-use Rattle.live_changes.specs.Changing.{Names}
 use Rattle.refinement.proofs.Sound.{few_of, held_of}
-use Rattle.decisions_verdict.specs.declared.Verdict.{Verdict}
-use Rattle.host_answers.specs.Code.{Ready}
-use Rattle.host_answers.proofs.Held.{length_front}
 use Rattle.host_receiving.proofs.Deciding.{short_payload, on_more, on_plain, on_message_law}
 use borrow.Enum.Refused.{opened}
 use Rattle.host_receiving.proofs.accept.Goals as goal
 
 pub decide_in-decision-requires : goal.decide_in-decision-requires
-decide_in-decision-requires c = (c.requires.0.1, held_of c.args.e c.requires.0.0.sound)
+decide_in-decision-requires c = held_of c.args.e c.requires.0.sound
 
 pub act-requires : goal.act-requires
 act-requires c = (
-  (c.requires.0.0, omega arith),
+  c.requires.0,
   c.decide_in-decision.ensures.decides.within,
   rw c.only.ensures.1 tt,
 )
 
 pub act-requires-in_default-item : goal.act-requires-in_default-item
 act-requires-in_default-item c = (
-  (c.requires.0.0, omega arith),
+  c.requires.0,
   c.decide_in-decision.ensures.decides.within,
-  rw c.only-in_default-item.ensures.1 tt,
+  rw c.only-plain.ensures.1 tt,
 )
-
-pub slice_bounds-deliver-end-2 : goal.slice_bounds-deliver-end-2
-slice_bounds-deliver-end-2 c =
-    let long : length c.decide_in-decision.new.store ≡ store_length = omega arith in
-    sym (length_front c.decide_in-decision.new.store long)
 
 pub deliver-verdict-requires : goal.deliver-verdict-requires
 deliver-verdict-requires c =
     let d = c.decide_in-decision in
     let a = c.args in (
-      few_of a.e c.requires.0.0.sound,
+      few_of a.e c.requires.0.sound,
       omega arith,
       short_payload d.result a.e.held a.bytes.now a.store.now d.new.store d.ensures,
     )
 
 pub act-requires-2 : goal.act-requires-2
 act-requires-2 c = (
-  (c.requires.0.0, omega arith),
+  c.requires.0,
   c.decide_in-decision.ensures.decides.within,
   c.deliver-verdict.ensures.0.names,
 )
-
-pub shape_of-store : goal.shape_of-store
-shape_of-store c =
-    let long : length c.decide_in-decision.new.store ≡ store_length = omega arith in
-    omega (arith, long, c.requires.0.1)
 
 pub returns-in_default : goal.returns-in_default
 returns-in_default c =
@@ -69,7 +51,7 @@ returns-in_default c =
 
 pub returns-in_default-item : goal.returns-in_default-item
 returns-in_default-item c =
-    let v = c.only-in_default-item in
+    let v = c.only-plain in
     let put = c.put_reply-replied in
     let d = c.decide_in-decision in
     let a = c.args in

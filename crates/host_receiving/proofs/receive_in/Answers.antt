@@ -3,7 +3,7 @@ use Prim.Native.Nat.{ℕ, ◌≤◌}
 use mathlib.Core.Bool.{◌||◌}
 use mathlib.Core.List.{[], ◌∷◌}
 use mathlib.Core.Option.{none}
-use mathlib.Core.Path.{◌≡◌, refl}
+use mathlib.Core.Path.{◌≡◌, refl, sym}
 use lib.Dec.{ltb}
 use lib.ListN.{length}
 use borrow.Author.Tests.{ltb-false}
@@ -13,11 +13,10 @@ use Rattle.ledger.specs.Calls.{receive}
 use Rattle.ledger.specs.Refusals.{line, first_of}
 use Rattle.endpoint.specs.declared.Endpoint.{Endpoint}
 use Rattle.endpoint.proofs.Order.{neither}
-use Rattle.refinement.specs.Refusals.{refusal_of}
 use Rattle.refusals.specs.Code.{with_endpoint}
 use Rattle.refusals.proofs.Table.{passed, own_passed}
 use Rattle.host_answers.proofs.Calls.{sound_of}
-use Rattle.host_answers.proofs.Calls.{meets, refuses, refused_by, accepted_by}
+use Rattle.host_answers.proofs.Calls.{meets, refuses}
 use Rattle.host_receiving.proofs.receive_in.Goals as goal
 
 -- the buffers of a receive that the table lets through have room
@@ -32,25 +31,20 @@ roomy e clock x y h =
 -- the table lets the call through
 pub accept-requires : goal.accept-requires
 accept-requires c =
-    let passes : let a = c.args in
-    refusal_of a.e a.store.now (receive a.bytes.now a.reply.now a.buffer.now a.clock) ≡ none = let check = c.check_receive-check in accepted_by check.result check.ensures c.in-Accepted.is in
-    let table = passes in
-    let room = roomy c.args.e c.args.clock (length c.args.reply.now) (length c.args.buffer.now) table in
-    ((sound_of c.args.e c.args.clock _ table, c.requires), room.0, room.1)
-
-pub returns-in-Refused : goal.returns-in-Refused
-returns-in-Refused c =
     let a = c.args in
-    let check = c.check_receive-check in
-    refuses a.e a.store.now (receive a.bytes.now a.reply.now a.buffer.now a.clock) _ c.in-Refused.number
-    (refused_by check.result check.ensures c.in-Refused.is)
+    let table = sym c.in-Ok.ensures in
+    let room = roomy a.e a.clock (length a.reply.now) (length a.buffer.now) table in
+    (sound_of a.e a.clock _ table, room.0, room.1)
+
+pub returns-in-Err : goal.returns-in-Err
+returns-in-Err c =
+    let a = c.args in
+    refuses a.e a.store.now (receive a.bytes.now a.reply.now a.buffer.now a.clock) _ _ (sym c.in-Err.ensures)
     (record { answers = refl; leaves = refl; keeps = refl; stores = refl })
 
-pub returns-in-Accepted : goal.returns-in-Accepted
-returns-in-Accepted c =
-    let passes : let a = c.args in
-    refusal_of a.e a.store.now (receive a.bytes.now a.reply.now a.buffer.now a.clock) ≡ none = let check = c.check_receive-check in accepted_by check.result check.ensures c.in-Accepted.is in
+pub returns-in-Ok : goal.returns-in-Ok
+returns-in-Ok c =
     let a = c.args in
-    let table = passes in
-    meets a.e a.store.now (receive a.bytes.now a.reply.now a.buffer.now a.clock) _
-    (sound_of a.e a.clock _ table).sound table c.accept.ensures
+    let table = sym c.in-Ok.ensures in
+    meets a.e a.store.now (receive a.bytes.now a.reply.now a.buffer.now a.clock) _ (sound_of a.e a.clock _ table).sound table
+    c.accept.ensures

@@ -31,22 +31,22 @@ whole live store row place seq count entry exit full fits less there put =
 
 pub overflow_add-at : goal.overflow_add-at
 overflow_add-at c =
-    let short : (get_or c.args.live.rows c.args.row blank_row).len ≤ max_data = len_at c.args.live c.well_formed.0.1.1.0.1.0.1 c.requires.1 c.args.row c.requires.2 in
+    let short : (get_or c.args.live.rows c.args.row blank_row).len ≤ max_data = len_at c.args.live c.well_formed.0.1.1.0.1.0.1 c.requires.0 c.args.row c.requires.1 in
     let few = short in omega arith
 
 pub slice_bounds-put_command-end : goal.slice_bounds-put_command-end
 slice_bounds-put_command-end c =
-    let short : (get_or c.args.live.rows c.args.row blank_row).len ≤ max_data = len_at c.args.live c.well_formed.0.1.1.0.1.0.1 c.requires.1 c.args.row c.requires.2 in
+    let short : (get_or c.args.live.rows c.args.row blank_row).len ≤ max_data = len_at c.args.live c.well_formed.0.1.1.0.1.0.1 c.requires.0 c.args.row c.requires.1 in
     let few = short in omega arith
 
 pub put_command-requires : goal.put_command-requires
 put_command-requires c =
-    let short : (get_or c.args.live.rows c.args.row blank_row).len ≤ max_data = len_at c.args.live c.well_formed.0.1.1.0.1.0.1 c.requires.1 c.args.row c.requires.2 in
+    let short : (get_or c.args.live.rows c.args.row blank_row).len ≤ max_data = len_at c.args.live c.well_formed.0.1.1.0.1.0.1 c.requires.0 c.args.row c.requires.1 in
     let few = short in
-    (c.requires.3, simp length-take (omega arith))
+    (c.requires.2, simp length-take (omega arith))
 
 pub returns : goal.returns
 returns c =
     let a = c.args in
     whole a.live a.store.now a.row c.place_of-at.result a.frame.seq.0 c.put_command.result
-    a.output.now c.put_command.new.output c.well_formed.0.1.1.0.1.0.1 c.requires.1 c.requires.2 c.place_of-at.ensures c.put_command.ensures
+    a.output.now c.put_command.new.output c.well_formed.0.1.1.0.1.0.1 c.requires.0 c.requires.1 c.place_of-at.ensures c.put_command.ensures

@@ -2,7 +2,7 @@
 use mathlib.Core.Path.{refl, sym, ◌∙◌}
 use Rattle.command.specs.Promises.{fields_of}
 use Rattle.ledger.specs.Calls.{submit}
-use Rattle.host_answers.proofs.Calls.{meets, refuses, refused_by, accepted_by}
+use Rattle.host_answers.proofs.Calls.{meets, refuses}
 use Rattle.host_answers.proofs.Calls.{sound_of}
 use Rattle.host_submitting.proofs.Joining.{submit_table, room_of}
 use Rattle.host_submitting.proofs.submit_in.Goals as goal
@@ -10,23 +10,22 @@ use Rattle.host_submitting.proofs.submit_in.Goals as goal
 pub accept-requires : goal.accept-requires
 accept-requires c =
     let a = c.args in
-    let table = accepted_by c.check_submit-check.result c.check_submit-check.ensures c.in-Accepted.is in
+    let table = sym c.in-Ok.ensures in
     let room = room_of a.e a.«data».now a.clock table in
-    ((sound_of a.e a.clock _ table, c.requires), room.short, room.free)
+    (sound_of a.e a.clock _ table, room.short, room.free)
 
-pub returns-in-Refused : goal.returns-in-Refused
-returns-in-Refused c =
+pub returns-in-Err : goal.returns-in-Err
+returns-in-Err c =
     let a = c.args in
-    refuses a.e a.store.now (submit (fields_of a.fields) a.«data».now a.wanted a.clock) _
-    c.in-Refused.number
+    refuses a.e a.store.now (submit (fields_of a.fields) a.«data».now a.wanted a.clock) _ _
     (sym (submit_table a.e a.store.now (fields_of a.fields) a.«data».now a.wanted a.clock c.well_formed.0.1.1.0.1.1.0.1.0.1)
-    ∙ refused_by c.check_submit-check.result c.check_submit-check.ensures c.in-Refused.is)
+    ∙ sym c.in-Err.ensures)
     (record { answers = refl; leaves = refl; keeps = refl; stores = refl })
 
-pub returns-in-Accepted : goal.returns-in-Accepted
-returns-in-Accepted c =
+pub returns-in-Ok : goal.returns-in-Ok
+returns-in-Ok c =
     let a = c.args in
-    let table = accepted_by c.check_submit-check.result c.check_submit-check.ensures c.in-Accepted.is in
+    let table = sym c.in-Ok.ensures in
     meets a.e a.store.now (submit (fields_of a.fields) a.«data».now a.wanted a.clock) _
     (sound_of a.e a.clock _ table).sound
     (sym (submit_table a.e a.store.now (fields_of a.fields) a.«data».now a.wanted a.clock c.well_formed.0.1.1.0.1.1.0.1.0.1) ∙ table)

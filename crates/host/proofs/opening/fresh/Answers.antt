@@ -11,16 +11,16 @@ pub returns : goal.returns
 returns c =
     let r = c.args.reserved in
     let e : Endpoint = record {
-      live = c.no_requests-live.result;
+      live = c.no_requests.result;
       reserved = r;
       clock = 0;
-      seq = c.first-seq.result;
+      seq = c.first.result;
       next = record { 0 = r + 1 };
-      seen = c.none-seen.result;
+      seen = c.none.result;
       held = 0;
     } in (
-      fresh_ledger e r c.no_requests-live.ensures refl refl c.first-seq.ensures (add-one r) c.none-seen.ensures
+      fresh_ledger e r c.no_requests.ensures refl refl c.first.ensures (add-one r) c.none.ensures
           refl,
-      fresh_sound e r c.no_requests-live.ensures refl refl c.first-seq.ensures (add-one r) c.none-seen.ensures
+      fresh_sound e r c.no_requests.ensures refl refl c.first.ensures (add-one r) c.none.ensures
           refl (search rules),
     )
