@@ -14,6 +14,7 @@ const PIECE_LENGTH: usize = 65536;
 const LINE_LENGTH: usize = 65536;
 
 // The bytes of a line that came so far.
+// Stays: a buffer with a length beside, and no Vec, since nothing here is on the heap.
 #[derive(Drop)]
 struct Line {
     bytes: [u8; LINE_LENGTH],
@@ -41,6 +42,7 @@ impl Line {
         Ok(())
     }
 
+    // All of them.
     fn text(&self) -> &[u8] {
         &self.bytes[..self.len]
     }

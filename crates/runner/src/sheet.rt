@@ -12,6 +12,7 @@ const OUT_LENGTH: usize = 65536;
 const LINE_ROOM: usize = 17000;
 
 // The lines, and how many bytes of them wait.
+// Stays: a buffer with a length beside, and no BufWriter, since nothing here is on the heap.
 #[derive(Drop)]
 pub(crate) struct Sheet {
     pub(crate) out: [u8; OUT_LENGTH],
