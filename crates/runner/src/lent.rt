@@ -1,10 +1,11 @@
 // The buffers that a call is lent: filled before it, shown as far as it says it put bytes there, and looked at behind that.
-ghost use Rattle.std.specs.Prelude.{◌≡◌, ◌+◌, ◌≤◌, length, take, drop};
+ghost use Rattle.std.specs.Prelude.{◌≡◌, ◌≤◌, length, take, drop};
 ghost use Rattle.texts.specs.Text.{Puts};
 ghost use Rattle.script.specs.Limits.{lent_max};
-ghost use Rattle.runner.specs.Room.{line_room};
+ghost use Rattle.runner.specs.Room.{HasRoom, line_room};
 ghost use Rattle.runner.specs.Lent.{touched, receive_line, poll_line};
 
+use crate::sheet::Sheet;
 use host_answers::{PollAnswer, ReceiveAnswer};
 use lent_lengths::{data_length, frame_length, reply_length};
 use script::calls::LENT_MAX;
@@ -20,32 +21,33 @@ pub(crate) fn filled() -> [u8; LENT_MAX]
     [FILL; LENT_MAX]
 }
 
-// The line of a receive, from its answer and the buffers as it left them.
-pub(crate) fn put_receive(
-    out: &mut [u8],
-    at: usize,
-    answer: ReceiveAnswer,
-    reply: &[u8],
-    buffer: &[u8],
-) -> usize
-    requires { (at + line_room ≤ length out.old) × (length reply.now ≤ lent_max) × (length buffer.now ≤ lent_max) }
-    ensures { Puts line_room at
-        (receive_line answer reply.now buffer.now) out.old out.new result }
-{
-    let (shown, behind) = parted(reply, reply_length(answer));
-    let (handed, past) = parted(buffer, data_length(answer));
-    let end = put_received(out, at, answer, shown, handed);
-    put_end(out, end, is_touched(behind) || is_touched(past))
-}
+impl Sheet {
+    // Puts the line of a receive, from its answer and the buffers as it left them, behind those that wait.
+    pub(crate) fn put_receive(&mut self, answer: ReceiveAnswer, reply: &[u8], buffer: &[u8])
+        requires room { HasRoom self.old }
+        requires reply { length reply.now ≤ lent_max }
+        requires buffer { length buffer.now ≤ lent_max }
+        ensures { Puts line_room self.old.used
+            (receive_line answer reply.now buffer.now) self.old.out self.new.out self.new.used }
+    {
+        let (shown, behind) = parted(reply, reply_length(answer));
+        let (handed, past) = parted(buffer, data_length(answer));
+        let end = put_received(&mut self.out, self.used, answer, shown, handed);
+        let touched = is_touched(behind) || is_touched(past);
+        self.used = put_end(&mut self.out, end, touched);
+    }
 
-// The line of a poll, from its answer and the output as it left it.
-pub(crate) fn put_poll(out: &mut [u8], at: usize, answer: PollAnswer, output: &[u8]) -> usize
-    requires { (at + line_room ≤ length out.old) × (length output.now ≤ lent_max) }
-    ensures { Puts line_room at (poll_line answer output.now) out.old out.new result }
-{
-    let (shown, behind) = parted(output, frame_length(answer));
-    let end = put_polled(out, at, answer, shown);
-    put_end(out, end, is_touched(behind))
+    // Puts the line of a poll, from its answer and the output as it left it.
+    pub(crate) fn put_poll(&mut self, answer: PollAnswer, output: &[u8])
+        requires room { HasRoom self.old }
+        requires output { length output.now ≤ lent_max }
+        ensures { Puts line_room self.old.used
+            (poll_line answer output.now) self.old.out self.new.out self.new.used }
+    {
+        let (shown, behind) = parted(output, frame_length(answer));
+        let end = put_polled(&mut self.out, self.used, answer, shown);
+        self.used = put_end(&mut self.out, end, is_touched(behind));
+    }
 }
 
 // The front of a buffer, of a length that a call answered or all of it, and what is behind.

@@ -3,7 +3,7 @@ ghost use Rattle.std.specs.Prelude.{◌≤◌, length};
 ghost use Rattle.script.specs.Limits.{lent_max, Within};
 ghost use Rattle.runner.specs.Room.{HasRoom};
 
-use crate::lent::{filled, put_poll, put_receive};
+use crate::lent::filled;
 use crate::sheet::Sheet;
 use command::Fields;
 use endpoint::{Endpoint, STORE_LENGTH};
@@ -117,7 +117,7 @@ impl Session {
         let buffer = &mut second[..buffer];
         let done = receive(e, &mut self.store, bytes, reply, buffer, clock);
         self.endpoint = Some(done.endpoint);
-        sheet.used = put_receive(&mut sheet.out, sheet.used, done.answer, reply, buffer);
+        sheet.put_receive(done.answer, reply, buffer);
     }
 
     fn run_poll(&mut self, e: Endpoint, output: usize, clock: u64, sheet: &mut Sheet)
@@ -128,6 +128,6 @@ impl Session {
         let output = &mut space[..output];
         let done = poll(e, &mut self.store, output, clock);
         self.endpoint = Some(done.endpoint);
-        sheet.used = put_poll(&mut sheet.out, sheet.used, done.answer, output);
+        sheet.put_poll(done.answer, output);
     }
 }

@@ -26,6 +26,7 @@ fn cut(text: &[u8]) -> (&[u8], &[u8]) {
 }
 
 impl<'a> Reader<'a> {
+    // The next field, behind one space.
     fn next(&mut self) -> Result<&'a [u8], Fault> {
         let Some((_, text)) = self.rest.split_first() else {
             return Err(Fault::MissingField);
@@ -42,6 +43,7 @@ impl<'a> Reader<'a> {
         value_of(self.next()?, most)
     }
 
+    // Reads a number of one byte.
     pub(crate) fn byte(&mut self) -> Result<u8, Fault> {
         Ok(self.number(u8::MAX as u64)? as u8)
     }
