@@ -12,20 +12,16 @@ const RESERVED: [u64; 5] = [0, 1, 38, 65534, 18446744073709551615];
 const ROWS: usize = 125;
 
 pub(crate) fn print_every(rt: &impl Print) -> io::Result<()> {
-    let mut i = 0;
-    while i < 5 {
-        print_counts(rt, RESERVED[i])?;
-        i += 1;
+    for reserved in RESERVED {
+        print_counts(rt, reserved)?;
     }
     Ok(())
 }
 
 // The lines of an R: one for each number of rows in use.
 fn print_counts(rt: &impl Print, reserved: u64) -> io::Result<()> {
-    let mut count = 0;
-    while count <= LIVE_MAX {
+    for count in 0..=LIVE_MAX {
         print_answers(rt, reserved, count)?;
-        count += 1;
     }
     Ok(())
 }
@@ -33,10 +29,8 @@ fn print_counts(rt: &impl Print, reserved: u64) -> io::Result<()> {
 // A line: R, how many rows are in use, and the answers.
 fn print_answers(rt: &impl Print, reserved: u64, count: usize) -> io::Result<()> {
     print_head(rt, reserved, count)?;
-    let mut number = 0;
-    while number < ROWS {
+    for number in 0..ROWS {
         print_answer(rt, number, count, reserved)?;
-        number += 1;
     }
     println!(rt; "")
 }
