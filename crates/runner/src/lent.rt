@@ -27,26 +27,23 @@ impl Sheet {
         requires room { HasRoom self.old }
         requires reply { length reply.now ≤ lent_max }
         requires buffer { length buffer.now ≤ lent_max }
-        ensures { Puts line_room self.old.used
-            (receive_line answer reply.now buffer.now) self.old.out self.new.out self.new.used }
+        ensures { Puts line_room (receive_line answer reply.now buffer.now) self.old.lines.items self.new.lines.items }
     {
         let (shown, behind) = parted(reply, reply_length(answer));
         let (handed, past) = parted(buffer, data_length(answer));
-        let end = put_received(&mut self.out, self.used, answer, shown, handed);
-        let touched = is_touched(behind) || is_touched(past);
-        self.used = put_end(&mut self.out, end, touched);
+        put_received(&mut self.lines, answer, shown, handed);
+        put_end(&mut self.lines, is_touched(behind) || is_touched(past));
     }
 
     // Puts the line of a poll, from its answer and the output as it left it.
     pub(crate) fn put_poll(&mut self, answer: PollAnswer, output: &[u8])
         requires room { HasRoom self.old }
         requires output { length output.now ≤ lent_max }
-        ensures { Puts line_room self.old.used
-            (poll_line answer output.now) self.old.out self.new.out self.new.used }
+        ensures { Puts line_room (poll_line answer output.now) self.old.lines.items self.new.lines.items }
     {
         let (shown, behind) = parted(output, frame_length(answer));
-        let end = put_polled(&mut self.out, self.used, answer, shown);
-        self.used = put_end(&mut self.out, end, is_touched(behind));
+        put_polled(&mut self.lines, answer, shown);
+        put_end(&mut self.lines, is_touched(behind));
     }
 }
 
