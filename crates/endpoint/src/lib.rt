@@ -1,6 +1,7 @@
 // The host endpoint as its callers hold it (document 01, "The ledger"): numbers by value, bytes in a store that the caller lends.
 #![tactic(auto)]
 
+use audit::HasId;
 use command::{Fields, MAX_DATA, RequestId};
 use line::HELD_MAX;
 use link::frame::Frame;
@@ -39,6 +40,16 @@ pub struct Request {
     pub wanted: bool,
     pub len: usize,
     pub state: State,
+}
+
+// What the request-row audit reads of a request: its ID.
+// Ruled out: the ID without its high byte, and the number of bytes of data.
+impl HasId for Request {
+    ghost id_of = { λ q. q.id.0 };
+
+    fn id(&self) -> u16 {
+        self.id.0
+    }
 }
 
 // The live requests, oldest first: the first `count` rows.

@@ -1,6 +1,5 @@
 // Every row of three records over five IDs, with each number of rows in use and several R: an answer a character.
 use crate::records::live;
-use audit::Finding;
 use endpoint::{LIVE_MAX, Requests};
 use std::io;
 
@@ -12,20 +11,16 @@ const RESERVED: [u64; 5] = [0, 1, 38, 65534, 18446744073709551615];
 const ROWS: usize = 125;
 
 pub(crate) fn print_every(rt: &impl Print) -> io::Result<()> {
-    let mut i = 0;
-    while i < 5 {
-        print_counts(rt, RESERVED[i])?;
-        i += 1;
+    for reserved in RESERVED {
+        print_counts(rt, reserved)?;
     }
     Ok(())
 }
 
 // The lines of an R: one for each number of rows in use.
 fn print_counts(rt: &impl Print, reserved: u64) -> io::Result<()> {
-    let mut count = 0;
-    while count <= LIVE_MAX {
+    for count in 0..=LIVE_MAX {
         print_answers(rt, reserved, count)?;
-        count += 1;
     }
     Ok(())
 }
@@ -33,10 +28,8 @@ fn print_counts(rt: &impl Print, reserved: u64) -> io::Result<()> {
 // A line: R, how many rows are in use, and the answers.
 fn print_answers(rt: &impl Print, reserved: u64, count: usize) -> io::Result<()> {
     print_head(rt, reserved, count)?;
-    let mut number = 0;
-    while number < ROWS {
+    for number in 0..ROWS {
         print_answer(rt, number, count, reserved)?;
-        number += 1;
     }
     println!(rt; "")
 }
@@ -48,8 +41,8 @@ fn print_head(rt: &impl Print, reserved: u64, count: usize) -> io::Result<()> {
 // An answer: the position, or `-` for none.
 fn print_answer(rt: &impl Print, number: usize, count: usize, reserved: u64) -> io::Result<()> {
     match record_audit::audit_live(row(number, count), reserved) {
-        Finding::At(position) => print!(rt; "{position}"),
-        Finding::None => print!(rt; "-"),
+        Some(position) => print!(rt; "{position}"),
+        None => print!(rt; "-"),
     }
 }
 

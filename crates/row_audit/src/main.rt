@@ -48,10 +48,8 @@ fn print_unsound(rt: &impl Print) -> io::Result<()> {
 // The line of a row of IDs.
 fn print_ids(rt: &impl Print, ids: &[u16], reserved: u64) -> io::Result<()> {
     print!(rt; "ids")?;
-    let mut rest = ids;
-    while 0 < rest.len() {
-        print_id(rt, rest[0])?;
-        rest = &rest[1..];
+    for id in ids {
+        print_id(rt, *id)?;
     }
     print_reserved(rt, reserved)?;
     print_finding(rt, audit::audit_ids(ids, reserved))

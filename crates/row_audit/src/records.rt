@@ -1,7 +1,7 @@
 // Rows of request records: the live requests of an endpoint, one waiting, one in flight, one queued.
 use crate::print::{print_finding, print_id, print_reserved};
 use command::{Fields, RequestId};
-use endpoint::{LIVE_MAX, Request, Requests, State};
+use endpoint::{Request, Requests, State};
 use link::frame::Frame;
 use message::Seq;
 use std::io;
@@ -53,22 +53,9 @@ fn request(id: u16, state: State) -> Request {
 // The line of live requests.
 fn print_live(rt: &impl Print, live: Requests, reserved: u64) -> io::Result<()> {
     print!(rt; "records")?;
-    let mut i = 0;
-    while i < LIVE_MAX {
-        print_row(rt, live, i)?;
-        i += 1;
+    for q in live.rows.iter().take(live.count) {
+        print_id(rt, q.id.0)?;
     }
     print_reserved(rt, reserved)?;
     print_finding(rt, record_audit::audit_live(live, reserved))
-}
-
-// The ID of a row that is in use.
-fn print_row(rt: &impl Print, live: Requests, row: usize) -> io::Result<()> {
-    if row < LIVE_MAX {
-        if row < live.count {
-            let q = live.rows[row];
-            return print_id(rt, q.id.0);
-        }
-    }
-    Ok(())
 }
