@@ -3,7 +3,7 @@
 use Prim.Native.Nat.{ℕ, zero, suc, ◌+◌, ◌<◌}
 use mathlib.Core.Bool.{Bool, true, false, true≢false, ◌||◌, or-true, cond as if}
 use mathlib.Core.List.{List, [], ◌∷◌, ◌++◌, append-nil}
-use mathlib.Core.Option.{Option, none, some}
+use Rattle.std.specs.Prelude.{Option, None, Some}
 use mathlib.Core.Path.{◌≡◌, refl, sym, ap, ◌∙◌}
 use native.Mathlib.Omega.{arith}
 use lib.Dec.{eqb, leb, ltb}
@@ -15,8 +15,8 @@ use Rattle.audit.specs.Rows.{id_at, Unsound, is_zero, is_reserved, is_repeated, 
 -- ---- the search
 -- the first of so many positions at which a test holds, counted from a number on, or that there is none
 data Search (test : ℕ → Bool) (count from : ℕ) : Option ℕ → Type 0 where
-  hit : (i n : ℕ) → n ≡ from + i → i < count → test i ≡ true → ((j : ℕ) → j < i → test j ≡ false) → Search test count from (some n)
-  miss : ((j : ℕ) → j < count → test j ≡ false) → Search test count from none
+  hit : (i n : ℕ) → n ≡ from + i → i < count → test i ≡ true → ((j : ℕ) → j < i → test j ≡ false) → Search test count from (Some n)
+  miss : ((j : ℕ) → j < count → test j ≡ false) → Search test count from None
 
 -- with one position more in front, at which the test does not hold
 later : {test rest : ℕ → Bool} {count from : ℕ} {o : Option ℕ} → test 0 ≡ false → ((i : ℕ) → rest i ≡ test (suc i))
@@ -63,7 +63,7 @@ searched r (id ∷ ids) earlier from = by_test (is_unsound r earlier id) refl (s
   where
     by_test : (t : Bool) → is_unsound r earlier id ≡ t
         → Search (test_in r (id ∷ earlier) ids) (length ids) (suc from) (first_from r (id ∷ earlier) (suc from) ids)
-        → Search (test_in r earlier (id ∷ ids)) (suc (length ids)) from (if t (some from) (first_from r (id ∷ earlier) (suc from) ids))
+        → Search (test_in r earlier (id ∷ ids)) (suc (length ids)) from (if t (Some from) (first_from r (id ∷ earlier) (suc from) ids))
     by_test true e rest = hit 0 from (omega arith) (omega arith) e (λ j less. absurd (omega arith))
     by_test false e rest = later e (test_next r id earlier ids) rest
 
@@ -133,17 +133,17 @@ module _ (r : ℕ) (ids : List ℕ) where
 
   -- no two answers are right
   pub same_answer : {o p : Option ℕ} → IsAnswer r ids o → IsAnswer r ids p → o ≡ p
-  same_answer (first_position i f) (first_position j g) = ap some (same_position i j f g)
+  same_answer (first_position i f) (first_position j g) = ap Some (same_position i j f g)
   same_answer (first_position i f) (no_position h) = absurd (h i f.within f.unsound)
   same_answer (no_position h) (first_position j g) = absurd (h j g.within g.unsound)
   same_answer (no_position h) (no_position k) = refl
 
   -- an answer that is a position is the first unsound one
-  pub position_of : {i : ℕ} → IsAnswer r ids (some i) → IsFirst r ids i
+  pub position_of : {i : ℕ} → IsAnswer r ids (Some i) → IsFirst r ids i
   position_of (first_position i f) = f
 
   -- an answer that there is none tells that the row is sound
-  pub sound_of : IsAnswer r ids none → Sound r ids
+  pub sound_of : IsAnswer r ids None → Sound r ids
   sound_of (no_position h) = record { unreserved = above; distinct = λ i j less inside same. h i inside (is_repeated j less same) }
     where
       above : (i : ℕ) → i < length ids → r < id_at ids i
@@ -154,7 +154,7 @@ module _ (r : ℕ) (ids : List ℕ) where
           by_test false e = leb-false (id_at ids i) r e
 
   -- and of a sound row that is the answer
-  pub answer_none : Sound r ids → IsAnswer r ids none
+  pub answer_none : Sound r ids → IsAnswer r ids None
   answer_none s = no_position none_unsound
     where
       none_unsound : (i : ℕ) → i < length ids → Unsound r ids i → ⊥

@@ -1,4 +1,3 @@
 pub mod Audit
-pub mod Promises
 pub mod Rows
 pub mod Code

@@ -1,6 +1,6 @@
 -- Document 01, "Request-row audit", as statements about the positions of a row: what `proofs/Laws.antt` shows of the answer.
 use Rattle.std.specs.Prelude.{ℕ, ◌≤◌, ◌<◌, List, ◌≢◌, ◌≡◌, length, get_or}
-use Rattle.std.proofs.Math.Option.{Option, none, some}
+use Rattle.std.specs.Prelude.{Option, None, Some}
 
 -- the ID at a position
 abbrev pub id_at : List ℕ → ℕ → ℕ
@@ -24,8 +24,8 @@ NoneUnsound r ids = (i : ℕ) → i < length ids → Unsound r ids i → ⊥
 
 -- "The answer is the first position, .., or that there is none."
 pub data IsAnswer (r : ℕ) (ids : List ℕ) : Option ℕ → Type 0 where
-  first_position : (i : ℕ) → IsFirst r ids i → IsAnswer r ids (some i)
-  no_position : NoneUnsound r ids → IsAnswer r ids none
+  first_position : (i : ℕ) → IsFirst r ids i → IsAnswer r ids (Some i)
+  no_position : NoneUnsound r ids → IsAnswer r ids None
 
 -- a row with none, said of its IDs: each is above R, and so not 0, and no two are equal
 pub record Sound (r : ℕ) (ids : List ℕ) : Type 0 where

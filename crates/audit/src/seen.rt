@@ -1,6 +1,6 @@
 // One step of an audit: an ID beside those before it, which a table holds, a bit for each ID there is.
-ghost use Rattle.std.specs.Prelude.{◌≡◌, ◌||◌, eqb, leb, length};
-ghost use Rattle.audit.specs.Code.{words, has_seen, with_seen, Judged};
+ghost use Rattle.std.specs.Prelude.{◌≡◌, ◌||◌, eqb, leb};
+ghost use Rattle.audit.specs.Code.{has_seen, with_seen, Judged};
 
 // The words of a table: a bit for each 16-bit ID.
 pub const WORDS: usize = 1024;
@@ -13,18 +13,7 @@ const BITS: u16 = 64;
 pub fn is_unsound(id: u16, reserved: u64, seen: &mut [u64; WORDS]) -> bool
     ensures { Judged reserved id seen.old seen.new result }
 {
-    judge(id, reserved, seen)
-}
-
-// The same over a slice, whose length is no part of its type.
-fn judge(id: u16, reserved: u64, seen: &mut [u64]) -> bool
-    requires { length seen.old ≡ words }
-    ensures { Judged reserved id seen.old seen.new result }
-{
-    if is_reserved(id, reserved) {
-        return true;
-    }
-    mark(id, seen)
+    is_reserved(id, reserved) || mark(id, seen)
 }
 
 // Whether an ID is 0 or at most R. Every R is at least 0, so one comparison answers both.
@@ -35,8 +24,7 @@ fn is_reserved(id: u16, reserved: u64) -> bool
 }
 
 // Marks an ID as seen, and answers whether it was seen before.
-fn mark(id: u16, seen: &mut [u64]) -> bool
-    requires { length seen.old ≡ words }
+fn mark(id: u16, seen: &mut [u64; WORDS]) -> bool
     ensures { (result ≡ has_seen seen.old id) × (seen.new ≡ with_seen seen.old id) }
 {
     let place = (id / BITS) as usize;

@@ -3,7 +3,7 @@
 use Prim.Native.Nat.{ℕ, ◌+◌, ◌≤◌, ◌<◌}
 use mathlib.Core.List.{List}
 use mathlib.Core.Logic.{◌⊎◌}
-use mathlib.Core.Option.{some}
+use Rattle.std.specs.Prelude.{Some}
 use mathlib.Core.Path.{◌≡◌, refl, sym}
 use native.Mathlib.Omega.{arith}
 use lib.ListN.{length, take, drop, get_or}
@@ -76,5 +76,5 @@ pub nak_refused : {number place seq : ℕ} {payload entry exit : List ℕ}
 nak_refused wrote other = trips.nak_refused wrote refl other
 
 -- a position that an audit finds is below the number of IDs; that number says that there is none
-pub position_below : (r : ℕ) (ids : List ℕ) {p : ℕ} → audit r ids ≡ some p → p < length ids
+pub position_below : (r : ℕ) (ids : List ℕ) {p : ℕ} → audit r ids ≡ Some p → p < length ids
 position_below r ids {p} h = (found_is_first r ids p h).within

@@ -1,6 +1,6 @@
 -- What the functions for C answer as numbers (document 01: "called from a C host, with numbers and byte buffers only").
 use Rattle.std.specs.Prelude.{ℕ, ◌+◌, List, ◌≡◌, length}
-use Rattle.std.proofs.Math.Option.{Option, none, some}
+use Rattle.std.specs.Prelude.{Option, None, Some}
 use Rattle.message.specs.Bytes as bytes
 use Rattle.message.specs.Bytes.{header_length}
 use Rattle.message.specs.Items.{damaged_header, forbidden, damaged_payload, message, Scan, undecided, decided}
@@ -39,5 +39,5 @@ place_of (decided (message type seq len) n r) = n + header_length
 -- the audit's answer: "the first position, counted from 0, .., or that there is none", for which the number of IDs in the row stands. A
 -- position is below that number.
 abbrev pub position_in : (count : ℕ) → Option ℕ → ℕ
-position_in count (some position) = position
-position_in count none = count
+position_in count (Some position) = position
+position_in count None = count

@@ -2,11 +2,9 @@
 ghost use Rattle.std.specs.Prelude.{◌≡◌, ◌^◌, ◌<◌};
 ghost use Rattle.message.specs.Items.{decided};
 ghost use Rattle.message.specs.Promises.{answer_of, item_of, scan_of};
-ghost use Rattle.audit.specs.Promises.{position_of};
 ghost use Rattle.c_api.specs.Numbers.{number_of, numbers, numbers_of, place_of, position_in};
 ghost use Rattle.c_api.specs.Code.{numbers_in};
 
-use audit::Finding;
 use message::header::HEADER_LENGTH;
 use message::{Item, Reading, WriteError};
 
@@ -79,11 +77,8 @@ fn of_no_message(rule: u8, dropped: usize, removed: usize) -> Numbers
 }
 
 // The position, or the number of IDs in the row.
-pub(crate) fn of_finding(finding: Finding, count: usize) -> usize
-    ensures { result ≡ position_in count (position_of finding) }
+pub(crate) fn of_finding(finding: Option<usize>, count: usize) -> usize
+    ensures { result ≡ position_in count finding }
 {
-    match finding {
-        Finding::At(position) => position,
-        Finding::None => count,
-    }
+    finding.unwrap_or(count)
 }

@@ -4,6 +4,7 @@
 ghost use Rattle.std.specs.Prelude.{◌≡◌};
 ghost use Rattle.endpoint.specs.Endpoint.{rows_of};
 
+use audit::HasId;
 use command::{Fields, MAX_DATA, RequestId};
 use line::HELD_MAX;
 use link::frame::Frame;
@@ -43,6 +44,16 @@ pub struct Request {
     pub wanted: bool,
     pub len: usize,
     pub state: State,
+}
+
+// What the request-row audit reads of a request: its ID.
+// Ruled out: the ID without its high byte, and the number of bytes of data.
+impl HasId for Request {
+    ghost id_of = { λ q. q.id.0 };
+
+    fn id(&self) -> u16 {
+        self.id.0
+    }
 }
 
 // The live requests, oldest first: the first `count` rows.

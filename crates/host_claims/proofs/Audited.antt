@@ -1,7 +1,7 @@
 -- The request-row audit of what the calls hand back: after every list of calls it finds none among the live requests.
 use Prim.Native.Nat.{ℕ}
 use mathlib.Core.List.{List}
-use mathlib.Core.Option.{none}
+use Rattle.std.specs.Prelude.{None}
 use mathlib.Core.Path.{◌≡◌, sym, ap, subst, ◌∙◌}
 use Rattle.ledger.specs.Parts.{live_max, Ledger}
 use Rattle.ledger.specs.Calls.{Call}
@@ -26,5 +26,5 @@ module _ {given : ℕ} {first : opening.Opened} {calls : List Call} {outcomes : 
       ∙ sym (ap (λ (s : Run). s.ledger.reserved) (run_agrees live_max given calls)) ∙ (ledger_claims_3 given calls).same
 
   -- no live request has an ID that is 0, at most R, or equal to an earlier one's
-  pub audit_finds_none : audit (reserved_for given) (ids_of (rows_of e.live)) ≡ none
-  audit_finds_none = subst (λ (r : ℕ). audit r (ids_of (rows_of e.live)) ≡ none) keeps_reserved (sound_endpoint e (never_malformed chain))
+  pub audit_finds_none : audit (reserved_for given) (ids_of (rows_of e.live)) ≡ None
+  audit_finds_none = subst (λ (r : ℕ). audit r (ids_of (rows_of e.live)) ≡ None) keeps_reserved (sound_endpoint e (never_malformed chain))

@@ -1,6 +1,6 @@
 -- The audit finds none in the live requests of an endpoint that is not malformed.
 use mathlib.Core.Bool.{false}
-use mathlib.Core.Option.{none}
+use Rattle.std.specs.Prelude.{None}
 use mathlib.Core.Path.{◌≡◌}
 use Rattle.audit.specs.Audit.{audit}
 use Rattle.audit.specs.Rows.{Sound}
@@ -17,5 +17,5 @@ pub sound_ids : (e : Endpoint) → malformed e ≡ false → Sound e.reserved (i
 sound_ids e h = record { unreserved = above e.reserved (rows_of e.live) (facts h).ids; distinct = apart (rows_of e.live) (facts h).unequal }
 
 -- so the audit of the live requests, by the endpoint's own R, finds none
-pub sound_endpoint : (e : Endpoint) → malformed e ≡ false → audit e.reserved (ids_of (rows_of e.live)) ≡ none
+pub sound_endpoint : (e : Endpoint) → malformed e ≡ false → audit e.reserved (ids_of (rows_of e.live)) ≡ None
 sound_endpoint e h = sound_is_none e.reserved (ids_of (rows_of e.live)) (sound_ids e h)

@@ -1,3 +1,2 @@
-mod RecordWalks
 pub mod LiveIds
 pub mod Laws

@@ -1,6 +1,5 @@
 // Every row of three records over five IDs, with each number of rows in use and several R: an answer a character.
 use crate::records::live;
-use audit::Finding;
 use endpoint::{LIVE_MAX, Requests};
 use std::io;
 
@@ -42,8 +41,8 @@ fn print_head(rt: &impl Print, reserved: u64, count: usize) -> io::Result<()> {
 // An answer: the position, or `-` for none.
 fn print_answer(rt: &impl Print, number: usize, count: usize, reserved: u64) -> io::Result<()> {
     match record_audit::audit_live(row(number, count), reserved) {
-        Finding::At(position) => print!(rt; "{position}"),
-        Finding::None => print!(rt; "-"),
+        Some(position) => print!(rt; "{position}"),
+        None => print!(rt; "-"),
     }
 }
 

@@ -1,5 +1,4 @@
 // The parts of a line.
-use audit::Finding;
 use std::io;
 
 pub(crate) fn print_id(rt: &impl Print, id: u16) -> io::Result<()> {
@@ -10,9 +9,9 @@ pub(crate) fn print_reserved(rt: &impl Print, reserved: u64) -> io::Result<()> {
     print!(rt; ", R {reserved}")
 }
 
-pub(crate) fn print_finding(rt: &impl Print, finding: Finding) -> io::Result<()> {
+pub(crate) fn print_finding(rt: &impl Print, finding: Option<usize>) -> io::Result<()> {
     match finding {
-        Finding::At(position) => println!(rt; ": {position}"),
-        Finding::None => println!(rt; ": none"),
+        Some(position) => println!(rt; ": {position}"),
+        None => println!(rt; ": none"),
     }
 }
