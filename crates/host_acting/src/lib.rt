@@ -35,7 +35,7 @@ pub fn decide_in(store: &mut [u8; STORE_LENGTH], held: usize, bytes: &[u8]) -> D
     requires { held ≤ held_max }
     ensures { DecidesIn result held bytes.now store.old store.new }
 {
-    decide(&mut store[..HELD_MAX], held, bytes)
+    decide(store.first_chunk_mut().unwrap(), held, bytes)
 }
 
 // What a message does, with the data of an event or a response put into the data buffer.

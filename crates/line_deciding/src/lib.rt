@@ -12,18 +12,19 @@ ghost use Rattle.line.specs.Promises.{Decides};
 ghost use Rattle.line.specs.declared.Place.TheVariants.{Held};
 
 use line::store::put_at;
-use line::{Decision, Place};
+use line::{Decision, HELD_MAX, Part, Place};
 use line_joining::{all_held, join};
 use message::header::{HEADER_LENGTH, SYN, total_length};
 use message::{FirstItem, Item};
 use message_reader::{len_in, read};
 
 // The item that the array's first count bytes and the new ones decide, with all that a call gives. For the crates above, which
-// lend HELD_MAX bytes and have refused a larger count: it is their malformed endpoint.
+// have refused a count over HELD_MAX: it is their malformed endpoint.
 // Ruled out: a damaged message that is removed whole, and a payload that begins where SYN stood.
-pub fn decide(array: &mut [u8], count: usize, new: &[u8]) -> Decision
-    requires { (length array.old ≡ held_max) × (count ≤ held_max) }
-    ensures { Decides result (take count array.old) new.now array.new }
+pub fn decide(array: &mut [u8; HELD_MAX], count: usize, new: &[u8]) -> Decision
+    requires { count ≤ held_max }
+    ensures decides { Decides result (take count array.old) new.now array.new }
+    ensures long { length array.new ≡ held_max }
 {
     let reading = read(&array[..count]);
     let Some(first) = reading.first else {
@@ -49,9 +50,8 @@ fn in_array(first: FirstItem, dropped: usize, count: usize) -> Decision
 }
 
 // No item of the held bytes: those that are dropped go, and what is left may begin a message.
-fn without_dropped(array: &mut [u8], dropped: usize, count: usize, new: &[u8]) -> Decision
-    requires { (length array.old ≡ held_max) × (count ≤ held_max)
-        × (scan (take count array.old) ≡ undecided dropped) }
+fn without_dropped(array: &mut [u8; HELD_MAX], dropped: usize, count: usize, new: &[u8]) -> Decision
+    requires { (count ≤ held_max) × (scan (take count array.old) ≡ undecided dropped) }
     ensures { Decides result (take count array.old) new.now array.new }
 {
     let kept = count - dropped;
@@ -61,7 +61,11 @@ fn without_dropped(array: &mut [u8], dropped: usize, count: usize, new: &[u8]) -
     if breaks_syn(kept, new) {
         return in_new(array, new);
     }
-    join(array, dropped, kept, new)
+    let held = Part {
+        from: dropped,
+        count: kept,
+    };
+    join(array, held, new)
 }
 
 // Whether a lone first byte of SYN is held and the next byte is not the second.
@@ -72,8 +76,7 @@ fn breaks_syn(kept: usize, new: &[u8]) -> bool
 }
 
 // Nothing is held: an item is read where the new bytes stand.
-fn in_new(array: &mut [u8], new: &[u8]) -> Decision
-    requires { length array.old ≡ held_max }
+fn in_new(array: &mut [u8; HELD_MAX], new: &[u8]) -> Decision
     ensures { Decides result [] new.now array.new }
 {
     let reading = read(new);
@@ -86,8 +89,8 @@ fn in_new(array: &mut [u8], new: &[u8]) -> Decision
 }
 
 // An item of the new bytes: what follows it, of the bytes that decide it, is held.
-fn item_in_new(array: &mut [u8], first: FirstItem, dropped: usize, new: &[u8]) -> Decision
-    requires { (length array.old ≡ held_max) × (scan new.now ≡ scan_with dropped (Some first)) }
+fn item_in_new(array: &mut [u8; HELD_MAX], first: FirstItem, dropped: usize, new: &[u8]) -> Decision
+    requires { scan new.now ≡ scan_with dropped (Some first) }
     ensures { Decides result [] new.now array.new }
 {
     let end = deciding_length(first, dropped, new);

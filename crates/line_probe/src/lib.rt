@@ -8,7 +8,7 @@ ghost use Rattle.line_probe.specs.Code.{numbers_in};
 
 use crate::numbers::{Numbers, of_received, refused};
 use line::HELD_MAX;
-use line_receiving::receive_in;
+use line_receiving::receive;
 
 // The next item of the array's first count bytes and of the new ones. Answers 0 for *more*, the number of the rule that decided,
 // or 1 where the array is not of HELD_MAX bytes or count is over that, which leaves the array. Sets all five numbers.
@@ -38,12 +38,11 @@ pub extern "C" fn fizrahum_probe_receive(
 fn probe(array: &mut [u8], count: usize, new: &[u8]) -> Numbers
     ensures { Probed (numbers_in result) count new.now array.old array.new }
 {
-    if array.len() != HELD_MAX {
+    let Some(array) = array.as_mut_array::<HELD_MAX>() else {
         return refused();
-    }
+    };
     if HELD_MAX < count {
         return refused();
     }
-    let received = receive_in(array, count, new);
-    of_received(received)
+    of_received(receive(array, count, new))
 }

@@ -17,21 +17,11 @@ pub fn receive(array: &mut [u8; HELD_MAX], count: usize, new: &[u8]) -> Received
     requires { count ≤ held_max }
     ensures { Receives result (take count array.old) new.now array.new }
 {
-    receive_in(array, count, new)
-}
-
-// The same where the array is HELD_MAX bytes of a larger one.
-pub fn receive_in(array: &mut [u8], count: usize, new: &[u8]) -> Received
-    requires { (length array.old ≡ held_max) × (count ≤ held_max) }
-    ensures { Receives result (take count array.old) new.now array.new }
-{
     let decision = decide(array, count, new);
-    let answer = decision.answer;
-    let taken = decision.taken;
     let count = settle(array, decision);
     Received {
-        answer,
-        taken,
+        answer: decision.answer,
+        taken: decision.taken,
         count,
     }
 }

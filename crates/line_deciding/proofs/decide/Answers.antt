@@ -9,12 +9,9 @@ use Rattle.line.proofs.Gives.{gives_item}
 use Rattle.line.proofs.Taking.{at_held}
 use Rattle.line_deciding.proofs.decide.Goals as goal
 
-pub slice_bounds-read-end-2 : goal.slice_bounds-read-end-2
-slice_bounds-read-end-2 c = sym (length-take-le _ _ (omega arith))
-
 pub without_dropped-requires : goal.without_dropped-requires
 without_dropped-requires c =
-    (c.requires.0, c.requires.1, sym (rw c.in_default.is at c.read-reading.ensures))
+    (c.requires, sym (rw c.in_default.is at c.read-reading.ensures))
 
 pub in_array-requires : goal.in_array-requires
 in_array-requires c =
@@ -23,8 +20,8 @@ in_array-requires c =
     let h = sym (rw c.in-Some.is at c.read-reading.ensures) in
     (omega (arith, scan_within held h, length-take-le a.count a.array.now (omega arith)), omega arith)
 
-pub returns : goal.returns
-returns c =
+pub returns-clause-decides : goal.returns-clause-decides
+returns-clause-decides c =
     let a = c.args in
     let held = take a.count a.array.now in
     let size : length held ≡ a.count = length-take-le a.count a.array.now (omega arith) in

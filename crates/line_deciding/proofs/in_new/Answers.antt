@@ -39,8 +39,4 @@ returns-in_default c =
     ∙ front_placed (drop dropped new) a.array.now (omega (arith, undecided_left new h)))
 
 pub item_in_new-requires : goal.item_in_new-requires
-item_in_new-requires c = (
-  c.requires,
-  sym
-      (rw c.in-Some.is at c.read-reading.ensures),
-)
+item_in_new-requires c = sym (rw c.in-Some.is at c.read-reading.ensures)

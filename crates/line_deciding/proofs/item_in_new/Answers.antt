@@ -11,8 +11,8 @@ returns c =
     let a = c.args in
     let k = c.deciding_length-end.result in
     let last = c.deciding_length-end.ensures.0 in
-    let f = follows a.first.item a.dropped a.first.removed k a.new.now c.requires.1 last in
+    let f = follows a.first.item a.dropped a.first.removed k a.new.now c.requires last in
     let small : length f ≤ length a.array.now =
     rw (length-take (k - (a.dropped + a.first.removed)) (drop (a.dropped + a.first.removed) a.new.now)) (omega arith) in
-    gives_new a.first.item a.dropped a.first.removed k a.new.now c.requires.1 last _ _ (refl, refl, refl, refl, refl)
+    gives_new a.first.item a.dropped a.first.removed k a.new.now c.requires last _ _ (refl, refl, refl, refl, refl)
     (ap (take (length f)) c.put_at.ensures ∙ front_placed f a.array.now small)

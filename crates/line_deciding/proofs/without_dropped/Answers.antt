@@ -12,27 +12,27 @@ pub overflow_sub-kept : goal.overflow_sub-kept
 overflow_sub-kept c =
     let p = c.requires in
     let a = c.args in
-    drops a.count a.dropped a.array.now p.0 p.1 p.2
+    drops a.count a.dropped a.array.now (omega arith) p.0 p.1
 
 pub returns-then-kept-eq0 : goal.returns-then-kept-eq0
 returns-then-kept-eq0 c =
     let p = c.requires in
     let a = c.args in
-    let le = drops a.count a.dropped a.array.now p.0 p.1 p.2 in
+    let le = drops a.count a.dropped a.array.now (omega arith) p.0 p.1 in
     decides_same
-    (all_dropped a.count a.dropped a.array.now p.0 p.1 p.2 a.new.now (omega (arith, le)))
+    (all_dropped a.count a.dropped a.array.now (omega arith) p.0 p.1 a.new.now (omega (arith, le)))
     c.in_new.ensures
 
 pub returns-then-breaks_syn : goal.returns-then-breaks_syn
 returns-then-breaks_syn c =
     let p = c.requires in
     let a = c.args in
-    let le = drops a.count a.dropped a.array.now p.0 p.1 p.2 in
+    let le = drops a.count a.dropped a.array.now (omega arith) p.0 p.1 in
     let kept = a.count - a.dropped in
     let held = take kept (drop a.dropped a.array.now) in
     let size = length_part a.dropped kept a.array.now (omega (arith, le)) in
     decides_same
-    (receives a.count a.dropped a.array.now p.0 p.1 p.2 kept (omega (arith, le)) a.new.now
+    (receives a.count a.dropped a.array.now (omega arith) p.0 p.1 kept (omega (arith, le)) a.new.now
     ∙ broken kept held a.new.now size (sym c.breaks_syn.ensures
     ∙ c.if-breaks_syn.true))
     c.in_new-then-breaks_syn.ensures
@@ -41,11 +41,9 @@ pub join-requires : goal.join-requires
 join-requires c =
     let p = c.requires in
     let a = c.args in
-    let le = drops a.count a.dropped a.array.now p.0 p.1 p.2 in (
-      p.0,
-      omega (arith, le),
+    let le = drops a.count a.dropped a.array.now (omega arith) p.0 p.1 in (
       omega arith,
-      waits a.count a.dropped a.array.now p.0 p.1 p.2 (a.count - a.dropped) (omega (arith, le)),
+      waits a.count a.dropped a.array.now (omega arith) p.0 p.1 (a.count - a.dropped) (omega (arith, le)),
       sym c.breaks_syn.ensures ∙ c.if-breaks_syn.false,
     )
 
@@ -53,8 +51,8 @@ pub returns : goal.returns
 returns c =
     let p = c.requires in
     let a = c.args in
-    let le = drops a.count a.dropped a.array.now p.0 p.1 p.2 in
+    let le = drops a.count a.dropped a.array.now (omega arith) p.0 p.1 in
     decides_same
-    (receives a.count a.dropped a.array.now p.0 p.1 p.2 (a.count - a.dropped) (omega (arith, le))
+    (receives a.count a.dropped a.array.now (omega arith) p.0 p.1 (a.count - a.dropped) (omega (arith, le))
     a.new.now)
     c.join.ensures

@@ -27,22 +27,24 @@ called n r count new entry exit line h p = record {
   leaves = rw (line, ← p.counts) p.holds;
 }
 
-pub returns-then-array-ne-HELD_MAX : goal.returns-then-array-ne-HELD_MAX
-returns-then-array-ne-HELD_MAX c =
+pub returns-in_default : goal.returns-in_default
+returns-in_default c =
     let a = c.args in
-    left _ a.count a.new.now a.array.now (rw (ne_eqb (length a.array.now) held_max (omega arith)))
+    left _ a.count a.new.now a.array.now (rw (ne_eqb (length a.array.now) held_max (grind arith)))
     c.refused.ensures
 
 pub returns-then-count-gt-HELD_MAX : goal.returns-then-count-gt-HELD_MAX
 returns-then-count-gt-HELD_MAX c =
     let a = c.args in
-    left _ a.count a.new.now a.array.now
+    rw c.in-Some.ensures.cases.same
+    (left _ a.count a.new.now a.array.now
     (rw (lt-leb a.count held_max (omega arith), and-false (eqb (length a.array.now) held_max)))
-    c.refused-then-count-gt-HELD_MAX.ensures
+    c.refused-then-count-gt-HELD_MAX.ensures)
 
 pub returns : goal.returns
 returns c =
     let a = c.args in
-    called _ c.receive_in-received.result a.count a.new.now a.array.now _
-    (rw (eq-eqb (length a.array.now) held_max (omega arith), le-leb a.count held_max (omega arith)))
-    c.of_received.ensures c.receive_in-received.ensures
+    let whole = c.in-Some.ensures.cases in
+    called _ c.receive.result a.count a.new.now a.array.now _
+    (rw (eq-eqb (length a.array.now) held_max whole.long, le-leb a.count held_max (omega arith)))
+    c.of_received.ensures (rw whole.same at c.receive.ensures)
