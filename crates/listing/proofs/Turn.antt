@@ -1,14 +1,14 @@
 -- One turn of handing in, from what `receive` and `add_line` promise: an item's line is short, fewer bytes are left, and what is left
 -- comes to what all comes to.
 use Prim.Native.Nat.{ℕ, ◌+◌, ◌-◌, ◌≤◌, ◌<◌}
-use mathlib.Core.Bool.{true, false}
+use mathlib.Core.Bool.{false}
 use mathlib.Core.List.{List, [], ◌∷◌, ◌++◌, append_assoc, append-nil}
 use mathlib.Core.Path.{◌≡◌, refl, sym, ap, subst, ◌∙◌}
 use native.Mathlib.Omega.{arith}
 use lib.ListN.{length, take, drop, length-take, length-drop, length-append}
 use lib.Seq.{take_all}
 use borrow.Author.Tests.{leb-false}
-use Rattle.std.specs.Prelude.{Option, None, Some}
+use Rattle.std.specs.Prelude.{Option, None, Some, Result, Ok, Err, OnErr}
 use Rattle.std.specs.Io.KnownBytes.{Appends}
 use Rattle.std.proofs.KnownBytes.{Appends-nil, Appends-trans}
 use Rattle.message.specs.Promises.{item_of}
@@ -21,10 +21,8 @@ use Rattle.line.specs.Receiving as spec
 use Rattle.line.specs.declared.Received.{Received}
 use Rattle.line.proofs.Laws.{item_removes, message_short, handed_more, handed_item}
 use Rattle.listing_words.specs.Words.{decimal_limit}
-use Rattle.listing_lines.specs.Promises.{Adds}
 use Rattle.listing_lines.specs.Text.{line_room, len_of}
 use Rattle.listing_lines.specs.Waiting.{has_room, writes, waits, writes_after, waits_after}
-use Rattle.listing_lines.specs.declared.Sheet.{Sheet}
 use Rattle.listing.specs.Promises.{Fails}
 use Rattle.listing.specs.Standing.{items_of, Standing, listed, writes_in}
 
@@ -77,49 +75,41 @@ module _ (r : Received) (held new exit : List ℕ) (p : Receives r held new exit
       writes_next = rw next
 
       module _ {start : Standing} {piece : List ℕ} (l : Left room start piece record { waiting = waiting; held = held } new)
-          {s : Sheet} {size : ℕ} {buffer : List ℕ} (same_size : size ≡ room) (a : Adds s size waiting (item_of i) buffer) where
+          {joined : List ℕ} where
         -- the line has joined
-        pub left_next : s.fine ≡ true
-            → Left room start piece record { waiting = take s.used buffer; held = take r.count exit }
-            (take (length new - r.taken) (drop r.taken new))
-        left_next fine =
-            let joined : take s.used buffer ≡ waits room waiting (item_of i) = rw (fine, same_size) at a.joins in
-            record {
-              same = rw (joined, behind r.taken new) (sym listed_next ∙ l.same);
-              fewer = rw (joined, behind r.taken new)
-                  (omega (arith, l.fewer, ap length writes_next ∙ length-append (writes room waiting) _));
-            }
+        pub left_next : joined ≡ waits room waiting (item_of i)
+            → Left room start piece record { waiting = joined; held = take r.count exit } (take (length new - r.taken) (drop r.taken new))
+        left_next same = record {
+          same = rw (same, behind r.taken new) (sym listed_next ∙ l.same);
+          fewer = rw (same, behind r.taken new) (omega (arith, l.fewer, ap length writes_next ∙ length-append (writes room waiting) _));
+        }
 
         -- what it wanted has been written
         pub sent_next : {written written' written'' : Option (List ℕ)}
-            → Sent room start piece record { waiting = waiting; held = held } new written written' → s.fine ≡ true
-            → (s.fine ≡ true → Appends written' written'' (writes size waiting))
-            → Sent room start piece record { waiting = take s.used buffer; held = take r.count exit }
+            → Sent room start piece record { waiting = waiting; held = held } new written written'
+            → joined ≡ waits room waiting (item_of i) → Appends written' written'' (writes room waiting)
+            → Sent room start piece record { waiting = joined; held = take r.count exit }
             (take (length new - r.taken) (drop r.taken new)) written written''
-        sent_next sent fine more =
-            let joined : take s.used buffer ≡ waits room waiting (item_of i) = rw (fine, same_size) at a.joins in
-            record {
-              done = sent.done ++ writes room waiting;
-              grows = Appends-trans _ _ _ _ _ sent.grows (rw same_size at (more fine));
-              so_far = rw (joined, behind r.taken new)
-                  (append_assoc sent.done (writes room waiting) _ ∙ ap (λ (l : List ℕ). sent.done ++ l) (sym writes_next) ∙ sent.so_far);
-            }
+        sent_next sent same more = record {
+          done = sent.done ++ writes room waiting;
+          grows = Appends-trans _ _ _ _ _ sent.grows more;
+          so_far = rw (same, behind r.taken new)
+              (append_assoc sent.done (writes room waiting) _ ∙ ap (λ (l : List ℕ). sent.done ++ l) (sym writes_next) ∙ sent.so_far);
+        }
 
         -- the write that it wanted has failed
-        pub left_fails : line_room ≤ room → s.fine ≡ false
-            → Fails room start piece record { waiting = take s.used buffer; held = take r.count exit }
-        left_fails large failed =
-            let why : (has_room room waiting ≡ false) × (s.used ≡ 0) = rw (failed, same_size) at a.joins in
-            record {
-              empty = rw why.1;
-              due = omega (
-                arith,
-                l.fewer,
-                ap length writes_next ∙ length-append (writes room waiting) _,
-                ap length (writes_all room waiting why.0),
-                leb-false (length waiting + line_room) room why.0,
-              );
-            }
+        pub left_fails : line_room ≤ room → (has_room room waiting ≡ false) × (joined ≡ [])
+            → Fails room start piece record { waiting = joined; held = take r.count exit }
+        left_fails large why = record {
+          empty = why.1;
+          due = omega (
+            arith,
+            l.fewer,
+            ap length writes_next ∙ length-append (writes room waiting) _,
+            ap length (writes_all room waiting why.0),
+            leb-false (length waiting + line_room) room why.0,
+          );
+        }
 
   -- *more*: all lines have joined
   pub listed_more : r.answer ≡ None → (room : ℕ) (waiting : List ℕ)
@@ -149,3 +139,8 @@ short r held new exit p i told = short_by held new i (said r held new exit p i t
 -- the held bytes are at most as many as were counted
 pub counted : (n : ℕ) (l : List ℕ) → length (take n l) ≤ n
 counted n l = rw (length-take n l) (omega arith)
+
+-- what holds where there is a failure
+pub on_err : {T E P : Type 0} (r : Result T E) → P → OnErr r P
+on_err (Ok x) p = tt
+on_err (Err e) p = p

@@ -1,3 +1,5 @@
+pub mod Failing
 pub mod Standing
 pub mod Promises
 pub mod Moving
+pub mod Reached

@@ -1,37 +1,41 @@
 -- What the functions promise, by the cases of what they answer. No contract says what a program reads or writes: so they speak of what
 -- waits and of what is held.
-use Rattle.std.specs.Prelude.{ℕ, ◌<◌, List, [], ◌≡◌, length, take}
+use Rattle.std.specs.Prelude.{ℕ, ◌<◌, Bool, true, false, List, [], ◌≡◌, length, Result, Ok, Err}
 use Rattle.listing.specs.Standing.{Standing, fresh, listed, writes_in}
-use Rattle.listing.specs.declared.Next.{Next}
-use Rattle.listing.specs.declared.Next.TheVariants.{Read, End, ReadFailed, WriteFailed}
+use Rattle.listing.specs.declared.failure.Failure.{Failure}
+use Rattle.listing.specs.declared.failure.Failure.TheVariants.{Read, Write, Endless}
 
--- how far a listing is, from the counts of what waits at the front of the buffer and of what is held at the front of the array
-abbrev pub standing : (used count : ℕ) (buffer array : List ℕ) → Standing
-standing used count buffer array = record { waiting = take used buffer; held = take count array }
+-- the room that lines wait in
+abbrev pub out_room : ℕ
+out_room = 4096
 
 -- a write failed: nothing waits, and one was due while the lines of these bytes joined
 pub record Fails (room : ℕ) (start : Standing) (piece : List ℕ) (end : Standing) : Type 0 where
   pub empty : end.waiting ≡ []
   pub due : 0 < length (writes_in room start piece)
 
--- by what comes next: it goes on, nothing more can be read, or a write failed
-abbrev pub on_next : Next → (goes stops fails : Type 0) → Type 0
-on_next Read goes stops fails = goes
-on_next End goes stops fails = stops
-on_next ReadFailed goes stops fails = stops
-on_next WriteFailed goes stops fails = fails
+-- by what a read, and the listing of what it brought, answer: it goes on, nothing more can be read, or a write failed
+abbrev pub on_some : Result Bool Failure → (goes stops fails : Type 0) → Type 0
+on_some (Ok true) goes stops fails = goes
+on_some (Ok false) goes stops fails = stops
+on_some (Err Read) goes stops fails = stops
+on_some (Err Write) goes stops fails = fails
+on_some (Err Endless) goes stops fails = ⊥
 
--- what `list_piece` promises of how far the listing was and is: the whole piece was handed in, or a write failed. It reads nothing, so it
--- never says that nothing more can be read
-abbrev pub ListsPiece : Next → (room : ℕ) (start : Standing) (piece : List ℕ) (end : Standing) → Type 0
-ListsPiece next room start piece end = on_next next (end ≡ listed room start piece) ⊥ (Fails room start piece end)
+-- by what all reads answer: what was read is listed, whether the input ended or not, or a write failed
+abbrev pub on_all : Result Unit Failure → (stands fails : Type 0) → Type 0
+on_all (Ok u) stands fails = stands
+on_all (Err Read) stands fails = stands
+on_all (Err Write) stands fails = fails
+on_all (Err Endless) stands fails = stands
 
--- what `list_some` promises: the same of some piece, since no contract can name the one that was read; where none was, all is as it was
-pub record ListsSome (next : Next) (room : ℕ) (start end : Standing) : Type 0 where
+-- what `list_some` promises of how far the listing was and is: some piece, since no contract can name the one that was read, was handed
+-- in whole, or a write failed; where none was read, all is as it was
+pub record ListsSome (r : Result Bool Failure) (room : ℕ) (start end : Standing) : Type 0 where
   pub piece : List ℕ
-  pub lists : on_next next (end ≡ listed room start piece) (end ≡ start) (Fails room start piece end)
+  pub lists : on_some r (end ≡ listed room start piece) (end ≡ start) (Fails room start piece end)
 
 -- what `list_all` promises: the same of some input, from the beginning
-pub record ListsAll (next : Next) (room : ℕ) (end : Standing) : Type 0 where
+pub record ListsAll (r : Result Unit Failure) (room : ℕ) (end : Standing) : Type 0 where
   pub input : List ℕ
-  pub lists : on_next next (end ≡ listed room fresh input) (end ≡ listed room fresh input) (Fails room fresh input end)
+  pub lists : on_all r (end ≡ listed room fresh input) (Fails room fresh input end)

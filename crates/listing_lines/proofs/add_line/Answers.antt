@@ -1,8 +1,7 @@
 -- `listing_lines::add_line` meets its contract: by whether there is room, the line joins those that wait or waits alone; what waited is
 -- written where there is none.
-use mathlib.Core.Path.{sym, ap, subst, ◌∙◌}
+use mathlib.Core.Path.{◌∙◌}
 use native.Mathlib.Omega.{arith}
-use Rattle.std.specs.Io.KnownBytes.{Appends}
 use Rattle.std.proofs.KnownBytes.{Appends-nil}
 use Rattle.message.specs.Promises.{item_of}
 use Rattle.listing_lines.proofs.Joining.{writes_none, writes_all, waits_too, waits_alone}

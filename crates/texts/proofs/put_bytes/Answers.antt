@@ -3,7 +3,6 @@ use mathlib.Core.Path.{sym, ap, ◌∙◌}
 use native.Mathlib.Omega.{arith}
 use lib.ListN.{length, length-append}
 use borrow.Author.Tests.{eqb-true, eqb-false}
-use Rattle.texts.specs.Text.{pair}
 use Rattle.texts.proofs.Putting.{wider, pairs_step, pairs_end, shown_none, shown_some}
 use Rattle.texts.proofs.put_bytes.Goals as goal
 

@@ -1,6 +1,6 @@
 -- `texts::put_pair` meets its contract: the two digits that the kit writes are put.
 use native.Mathlib.Omega.{arith}
-use mathlib.Core.Path.{ap, ◌∙◌}
+use mathlib.Core.Path.{ap}
 use lib.ListN.{length}
 use Rattle.texts.proofs.Putting.{pair_of}
 use Rattle.texts.proofs.put_pair.Goals as goal

@@ -1,0 +1,10 @@
+-- What the lister says on standard error of a listing that did not come to its end.
+use Rattle.std.specs.Prelude.{ℕ, List}
+use Rattle.texts.specs.Text.{ascii}
+use Rattle.listing.specs.declared.failure.Failure.{Failure}
+use Rattle.listing.specs.declared.failure.Failure.TheVariants.{Read, Write, Endless}
+
+unfoldable pub said : Failure → List ℕ
+said Read = ascii "reading standard input failed"
+said Write = ascii "writing standard output failed"
+said Endless = ascii "standard input does not end"

@@ -1,0 +1,29 @@
+// Why a listing did not come to its end.
+ghost use Rattle.std.specs.Prelude.{Some};
+ghost use Rattle.listing.specs.Failing.{said};
+
+use std::error::Error;
+use std::fmt;
+
+#[derive(Clone, Copy, Debug, PartialEq, Eq)]
+pub enum Failure {
+    Read,
+    Write,
+    // the input does not end
+    Endless,
+}
+
+impl fmt::Display for Failure {
+    ghost output = { λ f. Some (said f) };
+
+    #[tactic(auto, unfolding(crate::specs::Failing::said))]
+    fn fmt<W: fmt::Write>(&self, f: &mut fmt::Formatter<W>) -> fmt::Result {
+        match self {
+            Failure::Read => f.write_str("reading standard input failed"),
+            Failure::Write => f.write_str("writing standard output failed"),
+            Failure::Endless => f.write_str("standard input does not end"),
+        }
+    }
+}
+
+impl Error for Failure {}
