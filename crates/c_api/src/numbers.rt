@@ -11,6 +11,7 @@ use message::header::HEADER_LENGTH;
 use message::{Item, Reading, Written};
 
 // What `fizrahum_read` answers.
+// Stays: numbers, since C functions answer them.
 #[derive(Drop)]
 pub(crate) struct Numbers {
     pub rule: u8,
