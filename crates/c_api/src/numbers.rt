@@ -9,6 +9,7 @@ use message::header::HEADER_LENGTH;
 use message::{Item, Reading, WriteError};
 
 // What `fizrahum_read` answers.
+// Stays: numbers, since C functions answer them.
 #[derive(Drop)]
 pub(crate) struct Numbers {
     pub rule: u8,

@@ -11,6 +11,7 @@ pub fn move_to_front(array: &mut [u8], from: usize, count: usize)
     if from == 0 {
         return;
     }
+    // Stays: a loop, since std has no copy_within.
     for i in 0..count {
         array[i] = array[from + i];
     }

@@ -10,6 +10,7 @@ use line::Received;
 use message::Item;
 
 // What the probe answers.
+// Stays: numbers, since C functions answer them.
 #[derive(Drop)]
 pub(crate) struct Numbers {
     pub rule: u8,
