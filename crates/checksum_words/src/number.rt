@@ -44,10 +44,8 @@ pub(crate) fn behind(first: u32, bytes: &[u8]) -> u64
     ensures { result ≡ number_from first bytes.now }
 {
     let mut number = first as u64;
-    let mut rest = bytes;
-    while 0 < rest.len() {
-        number = number * 256 + wide(rest[0]) as u64;
-        rest = &rest[1..];
+    for byte in bytes {
+        number = number * 256 + *byte as u64;
     }
     number
 }
