@@ -27,6 +27,7 @@ pub enum Change {
 // Carries out a change. Asks for a store of its length, rows that fit and a row in use: the callers have refused a malformed
 // endpoint, and a search has found the row.
 // Ruled out: another request touched than the one named, and an ended request's data left to the next one.
+// Stays: a store is bytes with their length in a clause, here and below; the C interface lends it so, and a type would ask more.
 pub fn carry_out(live: Requests, store: &mut [u8], change: Change) -> Requests
     requires { (length store.old ≡ store_length) × Fits live × Names change live.count }
     ensures { Becomes result (changed change (live_of live store.old)) store.old store.new }
