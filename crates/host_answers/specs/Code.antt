@@ -1,5 +1,5 @@
 -- What the steps inside the calls come to, in the ledger's terms. What the calls promise does not cite these.
-use Rattle.std.specs.Prelude.{ℕ, ◌≤◌, false, List, [], ◌≡◌, length, take, drop}
+use Rattle.std.specs.Prelude.{ℕ, ◌≤◌, false, List, [], ◌≡◌, take, drop}
 use Rattle.message.specs.Items as items
 use Rattle.message.specs.Items.{damaged_header, forbidden, damaged_payload}
 use Rattle.line.specs.Receiving.{held_max}
@@ -7,20 +7,17 @@ use Rattle.line.specs.Promises.{Decides}
 use Rattle.line.specs.declared.Decision.{Decision}
 use Rattle.ledger.specs.Answers.{Done}
 use Rattle.ledger.specs.Receiving.{nak_message}
-use Rattle.endpoint.specs.Endpoint.{store_length, ledger_of}
+use Rattle.endpoint.specs.Endpoint.{ledger_of}
 use Rattle.endpoint.specs.Malformed.{malformed}
 use Rattle.endpoint.specs.Places.{Fits}
 use Rattle.endpoint.specs.declared.Endpoint.{Endpoint}
 use Rattle.decisions_verdict.specs.Verdicts.{reply_to}
 use Rattle.host_answers.specs.Promises.{Result}
 
--- what an accepted call works with: an endpoint that is not malformed, a reading not below its clock, and a store of its length
+-- what an accepted call works with: an endpoint that is not malformed, and a reading not below its clock
 pub record Sound (e : Endpoint) (clock : ℕ) : Type 0 where
   pub sound : malformed e ≡ false
   pub forward : e.clock ≤ clock
-
-abbrev pub Ready : Endpoint → (clock : ℕ) (store : List ℕ) → Type 0
-Ready e clock store = Sound e clock × (length store ≡ store_length)
 
 -- what an accepted call comes to: the ledger's answer, buffers and next ledger, with rows that fit and no more held than may be
 pub record Does (d : Done) (o : Result) : Type 0 where
