@@ -5,6 +5,7 @@ ghost use Rattle.listing.specs.Failing.{said};
 use std::error::Error;
 use std::fmt;
 
+// Ruled out, of what is said: a failed read said of a write, and nothing of an input without end.
 #[derive(Clone, Copy, Debug, PartialEq, Eq)]
 pub enum Failure {
     Read,
