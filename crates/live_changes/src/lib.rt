@@ -7,12 +7,12 @@ pub mod rooms; // the data of a request in the store
 ghost use Rattle.std.specs.Prelude.{◌≡◌, List, [], ◌∷◌, ◌++◌, ℕ, ◌≤◌, ◌<◌, length, take, set};
 ghost use Rattle.command.specs.Payload.{max_data};
 ghost use Rattle.ledger.specs.Parts.{live_max};
-ghost use Rattle.endpoint.specs.Endpoint.{store_length, request_of, live_of};
+ghost use Rattle.endpoint.specs.Endpoint.{request_of, live_of};
 ghost use Rattle.endpoint.specs.Places.{after, Fits};
 ghost use Rattle.live_changes.specs.Changing.{changed, Names, Becomes};
 ghost use Rattle.live_changes.specs.declared.Change.TheVariants.{Turn};
 
-use endpoint::{Request, Requests, State};
+use endpoint::{Request, Requests, STORE_LENGTH, State};
 use ledger::Cause;
 use rooms::{fill, move_up};
 
@@ -24,12 +24,11 @@ pub enum Change {
     End(usize, Cause),
 }
 
-// Carries out a change. Asks for a store of its length, rows that fit and a row in use: the callers have refused a malformed
-// endpoint, and a search has found the row.
+// Carries out a change. Asks for rows that fit and a row in use: the callers have refused a malformed endpoint, and a search has found
+// the row.
 // Ruled out: another request touched than the one named, and an ended request's data left to the next one.
-// Stays: a store is bytes with their length in a clause, here and below; the C interface lends it so, and a type would ask more.
-pub fn carry_out(live: Requests, store: &mut [u8], change: Change) -> Requests
-    requires { (length store.old ≡ store_length) × Fits live × Names change live.count }
+pub fn carry_out(live: Requests, store: &mut [u8; STORE_LENGTH], change: Change) -> Requests
+    requires { Fits live × Names change live.count }
     ensures { Becomes result (changed change (live_of live store.old)) store.old store.new }
 {
     match change {
@@ -62,8 +61,8 @@ fn with_row(live: Requests, row: usize, it: Request) -> Requests
 }
 
 // The request in a row leaves: those after it move up, each with its data.
-fn without(live: Requests, store: &mut [u8], row: usize) -> Requests
-    requires { (length store.old ≡ store_length) × Fits live × (row < live.count) }
+fn without(live: Requests, store: &mut [u8; STORE_LENGTH], row: usize) -> Requests
+    requires { Fits live × (row < live.count) }
     ensures { Becomes result (take row (live_of live store.old) ++ after row (live_of live store.old))
         store.old store.new }
 {
@@ -80,8 +79,8 @@ fn without(live: Requests, store: &mut [u8], row: usize) -> Requests
 
 // A request joins behind the others, with its data.
 // Ruled out: one that joins in front, and data in another's room.
-pub fn joined(live: Requests, store: &mut [u8], it: Request, data: &[u8]) -> Requests
-    requires { (length store.old ≡ store_length) × Fits live × (live.count < live_max)
+pub fn joined(live: Requests, store: &mut [u8; STORE_LENGTH], it: Request, data: &[u8]) -> Requests
+    requires { Fits live × (live.count < live_max)
         × (it.len ≡ length «data».now) × (it.len ≤ max_data) }
     ensures { Becomes result (live_of live store.old ++ (request_of it «data».now ∷ []))
         store.old store.new }

@@ -3,10 +3,12 @@ ghost use Rattle.std.specs.Prelude.{◌≡◌, suc, ◌≤◌, ◌<◌, length};
 ghost use Rattle.message.specs.Writing.{placed};
 ghost use Rattle.command.specs.Payload.{max_data};
 ghost use Rattle.ledger.specs.Parts.{live_max};
-ghost use Rattle.endpoint.specs.Endpoint.{room_place, room_at, store_length};
+ghost use Rattle.endpoint.specs.Endpoint.{room_place, room_at};
 
 use command::MAX_DATA;
+use endpoint::STORE_LENGTH;
 use line::HELD_MAX;
+use line::store::put_at;
 
 // Where a room begins. For the host and the functions here, whose row is within the array.
 // Ruled out: a room that overlaps the held bytes, and one that overlaps the next.
@@ -18,17 +20,16 @@ pub fn place_of(row: usize) -> usize
 }
 
 // Puts data into a room.
-pub(crate) fn fill(store: &mut [u8], row: usize, data: &[u8])
-    requires { (length store.old ≡ store_length) × (row < live_max) × (length «data».now ≤ max_data) }
+pub(crate) fn fill(store: &mut [u8; STORE_LENGTH], row: usize, data: &[u8])
+    requires { (row < live_max) × (length «data».now ≤ max_data) }
     ensures { store.new ≡ placed (room_place row) «data».now store.old }
 {
-    let at = place_of(row);
-    byte_slices::copy(data, &mut store[at..]);
+    put_at(store, place_of(row), data);
 }
 
 // Moves the first len bytes of the next room into a room.
-pub(crate) fn move_up(store: &mut [u8], row: usize, len: usize)
-    requires { (length store.old ≡ store_length) × (suc row < live_max) × (len ≤ max_data) }
+pub(crate) fn move_up(store: &mut [u8; STORE_LENGTH], row: usize, len: usize)
+    requires { (suc row < live_max) × (len ≤ max_data) }
     ensures { store.new ≡ placed (room_place row) (room_at store.old (suc row) len) store.old }
 {
     let to = place_of(row);

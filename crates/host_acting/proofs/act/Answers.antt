@@ -9,7 +9,7 @@ ending_of-ending-requires c = (few_of c.args.e c.requires.0.sound, c.requires.2)
 
 pub carry_out-live-requires : goal.carry_out-live-requires
 carry_out-live-requires c =
-    (omega arith, fits_of c.args.e c.requires.0.sound, c.requires.2)
+    (fits_of c.args.e c.requires.0.sound, c.requires.2)
 
 pub returns : goal.returns
 returns c before new words payload reply buffer decides size =

@@ -11,7 +11,7 @@ pub bounds-e-row : goal.bounds-e-row
 bounds-e-row c = let few = few_of c.args.e c.requires.0.sound in omega arith
 
 pub carry_out-live-requires : goal.carry_out-live-requires
-carry_out-live-requires c = (c.told-store, fits_of c.args.e c.requires.0.sound, c.requires.1)
+carry_out-live-requires c = (fits_of c.args.e c.requires.0.sound, c.requires.1)
 
 pub returns : goal.returns
 returns c =

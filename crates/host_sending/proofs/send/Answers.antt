@@ -7,7 +7,7 @@ pub put_frame-sent-requires : goal.put_frame-sent-requires
 put_frame-sent-requires c = (fits_of c.args.e c.requires.0.sound, c.requires.1, c.requires.2)
 
 pub carry_out-live-requires : goal.carry_out-live-requires
-carry_out-live-requires c = (c.told-store, fits_of c.args.e c.requires.0.sound, c.requires.1)
+carry_out-live-requires c = (fits_of c.args.e c.requires.0.sound, c.requires.1)
 
 pub returns : goal.returns
 returns c =

@@ -10,7 +10,7 @@ first_free-id-requires c =
 
 pub joined-live-requires : goal.joined-live-requires
 joined-live-requires c =
-    (c.told-store, fits_of c.args.e c.requires.0.sound, c.requires.2, refl, c.requires.1)
+    (fits_of c.args.e c.requires.0.sound, c.requires.2, refl, c.requires.1)
 
 pub id_after-next-requires : goal.id_after-next-requires
 id_after-next-requires c =

@@ -9,12 +9,12 @@ pub loop-i-init : goal.loop-i-init
 loop-i-init c =
     let a = c.args in
     let p = c.requires in
-    none_moved a.live a.store.now a.row c.well_formed.0.1.1.0.1.0.1 p.1 p.0 p.2
+    none_moved a.live a.store.now a.row c.well_formed.0.1.1.0.1.0.1 p.0 c.told-store p.1
 
 pub move_up-requires : goal.move_up-requires
 move_up-requires c =
     let l = c.loop-i in
-    (l.invariant.long, omega arith, omega (arith, len_at l.next l.invariant.full l.invariant.fits (l.i + 1) (omega arith)))
+    (omega arith, omega (arith, len_at l.next l.invariant.full l.invariant.fits (l.i + 1) (omega arith)))
 
 pub loop-i-preserved : goal.loop-i-preserved
 loop-i-preserved c =
