@@ -130,24 +130,19 @@ pub(crate) fn hand_in(
     for _ in 0..MOST_CALLS {
         let done = receive_one(tally, store, rest, reply, buffer);
         tally = done.tally;
-        if done.over {
+        let Some(untaken) = done.taken.and_then(|taken| rest.get(taken..)) else {
             return tally;
-        }
-        let taken = done.taken;
-        if rest.len() < taken {
-            return tally;
-        }
-        rest = &rest[taken..];
+        };
+        rest = untaken;
     }
     tally
 }
 
-// What came of a receive: whether it was *more*, and the bytes taken.
+// What came of a receive: the bytes taken with an item, none where it was *more* or refused.
 #[derive(Drop)]
 struct Took {
     tally: Tally,
-    over: bool,
-    taken: usize,
+    taken: Option<usize>,
 }
 
 fn receive_one(
@@ -163,15 +158,13 @@ fn receive_one(
     let Ok(receipt) = done.answer else {
         return Took {
             tally: Tally { endpoint, ..tally },
-            over: true,
-            taken: 0,
+            taken: None,
         };
     };
     let sum = counted(tally.sum, receipt_number(receipt) ^ (seen << 48));
     Took {
         tally: Tally { endpoint, sum },
-        over: receipt.item.is_none(),
-        taken: receipt.taken,
+        taken: receipt.item.map(|_| receipt.taken),
     }
 }
 

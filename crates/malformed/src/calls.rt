@@ -9,32 +9,30 @@ use std::io;
 
 // The line of an endpoint, with calls that nothing is wrong with but the endpoint.
 pub(crate) fn print_answers(rt: &impl Print, what: &str, e: Endpoint) -> io::Result<()> {
-    let data = [0; 248];
-    let mut reply = [0; 10];
-    let mut buffer = [0; 248];
-    let mut output = [0; 266];
-    print!(rt; "{what}: submit ")?;
-    print_number(rt, submitted(e, &data, CLOCK))?;
-    print!(rt; ", receive ")?;
-    print_number(rt, received(e, &mut reply, &mut buffer, CLOCK))?;
-    print!(rt; ", poll ")?;
-    print_number(rt, polled(e, &mut output, CLOCK))?;
-    println!(rt; "")
+    print_calls(rt, what, e, &[0; 248], &mut [0; 10], &mut [0; 266], CLOCK)
 }
 
 // The same with calls that the table refuses for other reasons too: submit with too much data, receive with too short a reply
 // buffer, and poll with a reading below the last one and too short an output.
 pub(crate) fn print_refusals(rt: &impl Print, what: &str, e: Endpoint) -> io::Result<()> {
-    let data = [0; 249];
-    let mut reply = [0; 9];
-    let mut buffer = [0; 248];
-    let mut output = [0; 265];
+    print_calls(rt, what, e, &[0; 249], &mut [0; 9], &mut [0; 265], EARLIER)
+}
+
+fn print_calls(
+    rt: &impl Print,
+    what: &str,
+    e: Endpoint,
+    data: &[u8],
+    reply: &mut [u8],
+    output: &mut [u8],
+    clock: u64,
+) -> io::Result<()> {
     print!(rt; "{what}: submit ")?;
-    print_number(rt, submitted(e, &data, CLOCK))?;
+    print_number(rt, submitted(e, data, CLOCK))?;
     print!(rt; ", receive ")?;
-    print_number(rt, received(e, &mut reply, &mut buffer, CLOCK))?;
+    print_number(rt, received(e, reply, &mut [0; 248], CLOCK))?;
     print!(rt; ", poll ")?;
-    print_number(rt, polled(e, &mut output, EARLIER))?;
+    print_number(rt, polled(e, output, clock))?;
     println!(rt; "")
 }
 
