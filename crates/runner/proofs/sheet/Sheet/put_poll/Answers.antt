@@ -6,6 +6,6 @@ pub returns : goal.returns
 returns c =
     let args = c.args in
     let parted = c.parted in
-    let put-polled = c.put_polled-end in
+    let put-polled = c.put_polled in
     poll_line_law args.answer args.output.now _ _ _ _ c.requires.output c.frame_length.ensures parted.ensures.front
-    parted.ensures.behind c.is_touched.ensures put-polled.ensures c.put_end-self.ensures
+    parted.ensures.behind c.is_touched.ensures put-polled.ensures c.put_end.ensures
