@@ -1,12 +1,12 @@
 -- What a loop over words knows: the register that its words stand for, continued over the bytes that are left, gives the answer.
 -- Assumes nothing.
 use Prim.Native.Nat.{ℕ, ◌+◌, ◌-◌, ◌^◌, ◌<◌, ◌≤◌}
-use mathlib.Core.List.{List, [], ◌∷◌}
-use mathlib.Core.Path.{◌≡◌, sym, ap, ◌∙◌}
+use mathlib.Core.List.{List, [], ◌∷◌, ◌++◌}
+use mathlib.Core.Path.{◌≡◌, sym, ap, ap₂, ◌∙◌}
 use native.Mathlib.Nat.{zero-add}
 use native.Mathlib.Omega.{arith}
-use lib.ListN.{length, length-drop, take, drop}
-use lib.Seq.{take_all}
+use lib.ListN.{length, length-append, length-drop, take, drop}
+use lib.Seq.{take_all, take_at, drop_at}
 use Rattle.checksum.specs.Checksum.{checksum_from}
 use Rattle.checksum_words.specs.Remainders.{number, remainder, two_words, four_words}
 use Rattle.checksum_words.proofs.Remainders.{zeros_first, word_next}
@@ -17,12 +17,12 @@ pub rest_of : (n : ℕ) (s : List ℕ) → take (length s - n) (drop n s) ≡ dr
 rest_of n s = take_all (length s - n) (drop n s) (simp length-drop (omega arith))
 
 -- a turn: a word more behind the words of before
-pub next_turn : (n z y w : ℕ) (s : List ℕ) → 8 ≤ length s → w ≡ number (take 8 s) → remainder n y ≡ remainder (64 + n) (two_words z w)
-    → checksum_from (remainder n y) (take (length s - 8) (drop 8 s)) ≡ checksum_from (remainder n z) s
-next_turn n z y w s h ew ey =
-    ap (checksum_from (remainder n y)) (rest_of 8 s)
-    ∙ ap (λ (c : ℕ). checksum_from c (drop 8 s)) (ey ∙ ap (λ (x : ℕ). remainder (64 + n) (two_words z x)) ew)
-    ∙ sym (word_next n z s h)
+pub next_turn : (n z y w : ℕ) (s x t : List ℕ) → s ≡ x ++ t → length x ≡ 8 → w ≡ number (take 8 x)
+    → remainder n y ≡ remainder (64 + n) (two_words z w) → checksum_from (remainder n y) t ≡ checksum_from (remainder n z) s
+next_turn n z y w s x t es ex ew ey =
+    ap₂ checksum_from (ey ∙ ap (λ (v : ℕ). remainder (64 + n) (two_words z v)) (ew ∙ ap number (take_all 8 x (omega arith) ∙ sym (take_at x t 8 ex)))) (sym (drop_at x t 8 ex))
+    ∙ sym (word_next n z (x ++ t) (simp length-append (omega arith)))
+    ∙ ap (checksum_from (remainder n z)) (sym es)
 
 -- the end: no byte is left
 pub at_end : (c r : ℕ) (s : List ℕ) → length s ≤ 0 → r ≡ c → r ≡ checksum_from c s

@@ -26,10 +26,8 @@ pub(crate) fn after(first: Two, bytes: &[u8]) -> u16
         c: first.high,
         d: first.low,
     };
-    let mut rest = bytes;
-    while 0 < rest.len() {
-        four = with_next(four, number::word(rest, 0));
-        rest = &rest[8..];
+    for word in bytes.chunks_exact(8) {
+        four = with_next(four, number::word(word, 0));
     }
     of_four(four)
 }
