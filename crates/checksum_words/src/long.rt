@@ -26,7 +26,8 @@ pub(crate) fn after(first: Two, bytes: &[u8]) -> u16
         c: first.high,
         d: first.low,
     };
-    for word in bytes.chunks_exact(8) {
+    let (words, _) = bytes.as_chunks::<8>();
+    for word in words {
         four = with_next(four, number::word(word, 0));
     }
     of_four(four)

@@ -27,6 +27,7 @@ pub(crate) fn word(bytes: &[u8], at: usize) -> u64
 }
 
 // Up to four bytes behind a number of 32 bits.
+// Stays: how many bytes they are is not fixed, and `from_be_bytes` takes an array.
 pub(crate) fn behind(first: u32, bytes: &[u8]) -> u64
     requires { length bytes.now ≤ 4 }
     ensures { result ≡ number_from first bytes.now }

@@ -18,7 +18,8 @@ pub(crate) fn after(first: Two, bytes: &[u8]) -> u16
     ensures { result ≡ checksum_from (remainder 128 (two_words first.high first.low)) bytes.now }
 {
     let mut two = first;
-    for word in bytes.chunks_exact(8) {
+    let (words, _) = bytes.as_chunks::<8>();
+    for word in words {
         two = with_word(two, number::word(word, 0));
     }
     remainder::of_two(two.high, two.low)
