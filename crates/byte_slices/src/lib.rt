@@ -34,10 +34,6 @@ pub fn find(bytes: &[u8], from: usize, to: usize, byte: u8) -> usize
     ensures before { (k : ℕ) → from ≤ k → k < result → slice_index bytes.now k ≢ byte }
     ensures found { result < to → slice_index bytes.now result ≡ byte }
 {
-    for i in from..to {
-        if bytes[i] == byte {
-            return i;
-        }
-    }
-    to
+    let found = bytes[from..to].iter().position(|b| *b == byte);
+    found.map_or(to, |i| from + i)
 }

@@ -1,12 +1,13 @@
 -- What a loop over words knows: the register that its words stand for, continued over the bytes that are left, gives the answer.
 -- Assumes nothing.
-use Prim.Native.Nat.{ℕ, ◌+◌, ◌-◌, ◌^◌, ◌<◌, ◌≤◌}
+use Prim.Native.Nat.{ℕ, zero, suc, ◌+◌, ◌-◌, ◌*◌, ◌/◌, ◌^◌, ◌<◌, ◌≤◌}
 use mathlib.Core.List.{List, [], ◌∷◌}
-use mathlib.Core.Path.{◌≡◌, sym, ap, ◌∙◌}
+use mathlib.Core.Path.{◌≡◌, refl, sym, ap, ap₂, ◌∙◌}
 use native.Mathlib.Nat.{zero-add}
 use native.Mathlib.Omega.{arith}
-use lib.ListN.{length, length-drop, take, drop}
-use lib.Seq.{take_all}
+use lib.ListN.{length, length-take, length-drop, get_or, take, drop}
+use lib.Seq.{take_all, drop-drop}
+use Rattle.std.specs.Simd.{first_chunks}
 use Rattle.checksum.specs.Checksum.{checksum_from}
 use Rattle.checksum_words.specs.Remainders.{number, remainder, two_words, four_words}
 use Rattle.checksum_words.proofs.Remainders.{zeros_first, word_next}
@@ -16,13 +17,25 @@ use Rattle.checksum_words.proofs.Steps.{two_below}
 pub rest_of : (n : ℕ) (s : List ℕ) → take (length s - n) (drop n s) ≡ drop n s
 rest_of n s = take_all (length s - n) (drop n s) (simp length-drop (omega arith))
 
+-- the word at a place among the words
+word_at : (k i : ℕ) (s : List ℕ) → i < k → get_or (first_chunks 8 k s) i [] ≡ take 8 (drop (8 * i) s)
+word_at zero i s h = absurd (omega arith)
+word_at (suc k) zero s h = refl
+word_at (suc k) (suc i) s h =
+    let sum : 8 + 8 * i ≡ 8 * suc i = omega arith in
+    word_at k i (drop 8 s) (omega arith) ∙ ap (take 8) (drop-drop (8 * i) 8 s ∙ ap (λ (j : ℕ). drop j s) sum)
+
 -- a turn: a word more behind the words of before
-pub next_turn : (n z y w : ℕ) (s : List ℕ) → 8 ≤ length s → w ≡ number (take 8 s) → remainder n y ≡ remainder (64 + n) (two_words z w)
-    → checksum_from (remainder n y) (take (length s - 8) (drop 8 s)) ≡ checksum_from (remainder n z) s
-next_turn n z y w s h ew ey =
-    ap (checksum_from (remainder n y)) (rest_of 8 s)
-    ∙ ap (λ (c : ℕ). checksum_from c (drop 8 s)) (ey ∙ ap (λ (x : ℕ). remainder (64 + n) (two_words z x)) ew)
-    ∙ sym (word_next n z s h)
+pub next_turn : (n z y w i : ℕ) (s : List ℕ) (words : List (List ℕ)) → words ≡ first_chunks 8 (length s / 8) s → i < length s / 8
+    → w ≡ number (take 8 (get_or words i [])) → remainder n y ≡ remainder (64 + n) (two_words z w)
+    → checksum_from (remainder n y) (drop (8 * (i + 1)) s) ≡ checksum_from (remainder n z) (drop (8 * i) s)
+next_turn n z y w i s words all less ew ey =
+    let sum : 8 * i + 8 ≡ 8 * (i + 1) = omega arith in
+    let word : get_or words i [] ≡ take 8 (drop (8 * i) s) = ap (λ (l : List (List ℕ)). get_or l i []) all ∙ word_at (length s / 8) i s less in
+    let same : w ≡ number (take 8 (drop (8 * i) s)) =
+    ew ∙ ap (λ (l : List ℕ). number (take 8 l)) word ∙ ap number (take_all 8 (take 8 (drop (8 * i) s)) (simp length-take (omega arith))) in
+    ap₂ checksum_from (ey ∙ ap (λ (v : ℕ). remainder (64 + n) (two_words z v)) same) (sym (drop-drop 8 (8 * i) s ∙ ap (λ (j : ℕ). drop j s) sum))
+    ∙ sym (word_next n z (drop (8 * i) s) (simp length-drop (omega arith)))
 
 -- the end: no byte is left
 pub at_end : (c r : ℕ) (s : List ℕ) → length s ≤ 0 → r ≡ c → r ≡ checksum_from c s

@@ -1,5 +1,5 @@
 -- The number that bytes are: bytes behind it, and the parts of it. Assumes nothing.
-use Prim.Native.Nat.{ℕ, suc, ◌+◌, ◌*◌, ◌/◌, ◌%◌, ◌^◌, ◌<◌, ◌≤◌}
+use Prim.Native.Nat.{ℕ, suc, ◌+◌, ◌-◌, ◌*◌, ◌/◌, ◌%◌, ◌^◌, ◌<◌, ◌≤◌}
 use mathlib.Core.List.{List, [], ◌∷◌, ◌++◌}
 use mathlib.Core.Path.{◌≡◌, refl, sym, ap, ◌∙◌, subst}
 use native.Mathlib.Nat.{add-mul, mul_assoc, add_assoc}
@@ -9,6 +9,7 @@ use lib.ListN.{length, length-drop, get_or, take, drop}
 use lib.Pow.{pow-add, high}
 use lib.Seq.{length-take-le, take-add, drop-cons, drop-drop}
 use Rattle.checksum_words.specs.Remainders.{number_from, number}
+use Rattle.std.proofs.lemmas.List.{get_or-take, get_or-drop}
 
 number_joined : (a : ℕ) (xs ys : List ℕ) → number_from a (xs ++ ys) ≡ number_from (number_from a xs) ys
 unfolding number_from
@@ -72,3 +73,22 @@ pub joined_at : (n m at : ℕ) (s : List ℕ) → at + (n + m) ≤ length s
 joined_at n m at s h =
     number_split n m (drop at s) (simp length-drop (omega arith))
     ∙ ap (λ (l : List ℕ). number (take n (drop at s)) * 2 ^ (8 * m) + number (take m l)) (drop-drop n at s)
+
+-- An array of the n bytes from a place on: each byte of it stands behind the number of those before it.
+module _ (n at : ℕ) (s xs : List ℕ) (fits : at + n ≤ length s) (bytes : (i : ℕ) → get_or s i 0 < 256)
+    (same : xs ≡ take n (take (length s - at) (drop at s))) where
+  place : (i : ℕ) → i < n → get_or xs i 0 ≡ get_or s (at + i) 0
+  place i h =
+      ap (λ (l : List ℕ). get_or l i 0) same
+      ∙ get_or-take n (take (length s - at) (drop at s)) i 0 h
+      ∙ get_or-take (length s - at) (drop at s) i 0 (omega arith)
+      ∙ get_or-drop at s i 0
+
+  pub one_more : (i : ℕ) → i < n → number (take (i + 1) (drop at s)) ≡ number (take i (drop at s)) * 256 + get_or xs i 0
+  one_more i h =
+      joined_at i 1 at s (omega arith)
+      ∙ ap (λ (k : ℕ). number (take i (drop at s)) * 256 + k) (byte_at (at + i) s (omega arith) (bytes (at + i)) ∙ sym (place i h))
+
+pub none_at : (at : ℕ) (s : List ℕ) → number (take 0 (drop at s)) ≡ 0
+unfolding number_from
+none_at at s = refl

@@ -58,7 +58,7 @@ fn few(bytes: &[u8]) -> u16
         let first = number::half(bytes, 0) ^ START_OF_FOUR;
         return remainder::of_word(number::behind(first, &bytes[4..]));
     }
-    if bytes.len() == 0 {
+    if bytes.is_empty() {
         return START; // no final change
     }
     remainder::of_word(number::behind(START_BEFORE, bytes))
@@ -71,7 +71,7 @@ fn many(bytes: &[u8]) -> u16
 {
     if bytes.len() == 9 {
         return remainder::of_near(
-            number::byte(bytes, 0) as u16 ^ START_OF_ONE,
+            bytes[0] as u16 ^ START_OF_ONE,
             number::word(bytes, 1) ^ START_BEHIND_ONE,
         );
     }

@@ -26,10 +26,9 @@ pub(crate) fn after(first: Two, bytes: &[u8]) -> u16
         c: first.high,
         d: first.low,
     };
-    let mut rest = bytes;
-    while 0 < rest.len() {
-        four = with_next(four, number::word(rest, 0));
-        rest = &rest[8..];
+    let (words, _) = bytes.as_chunks::<8>();
+    for word in words {
+        four = with_next(four, number::word(word, 0));
     }
     of_four(four)
 }

@@ -18,10 +18,9 @@ pub(crate) fn after(first: Two, bytes: &[u8]) -> u16
     ensures { result ≡ checksum_from (remainder 128 (two_words first.high first.low)) bytes.now }
 {
     let mut two = first;
-    let mut rest = bytes;
-    while 0 < rest.len() {
-        two = with_word(two, number::word(rest, 0));
-        rest = &rest[8..];
+    let (words, _) = bytes.as_chunks::<8>();
+    for word in words {
+        two = with_word(two, number::word(word, 0));
     }
     remainder::of_two(two.high, two.low)
 }

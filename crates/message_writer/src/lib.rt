@@ -3,7 +3,7 @@
 
 ghost use Rattle.std.specs.Prelude.{◌≡◌, not, ◌+◌, ◌≤◌, ltb, length, take};
 ghost use Rattle.checksum.specs.Checksum.{checksum_of};
-ghost use Rattle.message.specs.Bytes.{le16, fields, header, header_length, payload_at, body, message, total, max_len};
+ghost use Rattle.message.specs.Bytes.{le16, fields, header, header_length, payload_at, message, total, max_len};
 ghost use Rattle.message.specs.Writing.{written, placed};
 ghost use Rattle.message.specs.Promises.{answer_of, Wrote};
 
@@ -44,17 +44,16 @@ pub fn write_around(
     Ok(length)
 }
 
-// The message at its place, where it fits: the buffer from there on is lent to the header's and the payload's writers.
+// The message at its place, where it fits: the payload is copied to its place, and the rest put around it.
 fn put(buffer: &mut [u8], place: usize, kind: u8, seq: Seq, payload: &[u8])
     requires { (length payload.now ≤ max_len) × (place + total (length payload.now) ≤ length buffer.old) }
     ensures { buffer.new ≡ placed place (message kind seq.0 payload.now) buffer.old }
 {
-    let len = payload.len();
-    write_header(&mut buffer[place..], kind, len, seq);
-    write_body(&mut buffer[place + HEADER_LENGTH..], payload);
+    let len = byte_slices::copy(payload, &mut buffer[place + HEADER_LENGTH..]);
+    put_around(buffer, place, kind, seq, len);
 }
 
-// The same around a payload that stands there.
+// The header and the payload's checksum around a payload of len bytes that stands there.
 fn put_around(buffer: &mut [u8], place: usize, kind: u8, seq: Seq, len: usize)
     requires { (len ≤ max_len) × (place + total len ≤ length buffer.old) }
     ensures { buffer.new
@@ -104,15 +103,6 @@ fn write_fields(buffer: &mut [u8], kind: u8, len: usize, seq: Seq)
 {
     let [low, high] = (len as u16).to_le_bytes();
     byte_slices::copy(&[kind, low, high, seq.0], buffer);
-}
-
-// The payload and its checksum, at the front of the buffer.
-fn write_body(buffer: &mut [u8], payload: &[u8])
-    requires { length payload.now + 2 ≤ length buffer.old }
-    ensures { buffer.new ≡ placed 0 (body payload.now) buffer.old }
-{
-    let len = byte_slices::copy(payload, buffer);
-    write_checksum(buffer, len);
 }
 
 // The checksum of the first len bytes of the buffer, after them.

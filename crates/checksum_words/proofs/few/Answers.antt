@@ -12,8 +12,8 @@ returns-then-bytes-ge4 c =
     of_seven half.result c.of_word.result c.args.bytes.now (search rules) (search rules) half.ensures
     (c.of_word.ensures ∙ ap (remainder 64) c.behind.ensures)
 
-pub returns-then-bytes-eq0 : goal.returns-then-bytes-eq0
-returns-then-bytes-eq0 c = of_none c.args.bytes.now (search rules)
+pub returns-then-is_empty : goal.returns-then-is_empty
+returns-then-is_empty c = of_none c.args.bytes.now (search rules)
 
 pub returns : goal.returns
 returns c = of_three c.of_word-2.result c.args.bytes.now (omega arith) (c.of_word-2.ensures ∙ ap (remainder 64) c.behind-2.ensures)

@@ -3,17 +3,19 @@ use Prim.Native.Nat.{ℕ, ◌+◌, ◌-◌, ◌%◌}
 use mathlib.Core.Path.{sym, ap, ◌∙◌}
 use native.Mathlib.Omega.{arith}
 use lib.Bits.{bit_xor, xor_zero_r}
-use lib.ListN.{length}
+use lib.ListN.{length, get_or}
 use Rattle.checksum_words.specs.Remainders.{remainder, two_words}
 use Rattle.checksum_words.proofs.Fronts.{start_high}
+use Rattle.checksum_words.proofs.Numbers.{byte_at}
 use Rattle.checksum_words.proofs.Lengths.{of_front, of_rest}
 use borrow.Author.Rules.{rules}
 use Rattle.checksum_words.proofs.many.Goals as goal
 
 pub returns-then-bytes-eq9 : goal.returns-then-bytes-eq9
 returns-then-bytes-eq9 c =
-    of_front 0 c.byte.result c.word.result c.of_near.result c.args.bytes.now (omega arith) (search rules)
-    c.byte.ensures.0 c.word.ensures c.of_near.ensures
+    let s = c.args.bytes.now in
+    of_front 0 (get_or s 0 0) c.word.result c.of_near.result s (omega arith) (search rules)
+    (sym (byte_at 0 s (omega arith) (omega (arith, c.type_inv.bytes 0)))) c.word.ensures c.of_near.ensures
 
 -- nothing of the start is left for the word
 pub returns-then-bytes-eq10 : goal.returns-then-bytes-eq10

@@ -1,10 +1,24 @@
--- `checksum::number::word` meets its contract. Assumes nothing.
+-- `checksum_words::number::word` meets its contract: each byte of the array stands behind those before it.
+use Prim.Native.Nat.{ℕ}
 use native.Mathlib.Omega.{arith}
-use Rattle.checksum_words.proofs.Numbers.{joined_at}
-use borrow.Author.Rules.{rules}
+use Rattle.checksum_words.proofs.Numbers.{one_more, none_at}
 use Rattle.checksum_words.proofs.number.word.Goals as goal
 
 pub returns : goal.returns
 returns c =
-    let args = c.args in
-    omega (arith, c.half.ensures, c.half-2.ensures, joined_at 4 4 args.at args.bytes.now (search rules))
+    let at = c.args.at in
+    let s = c.args.bytes.now in
+    let step = one_more 8 at s c.unwrap.result.now (omega arith) (λ (i : ℕ). omega (arith, c.type_inv.bytes i)) (rw c.unwrap.ensures at c.first_chunk.ensures.cases).same in
+    omega (
+      arith,
+      c.from_be_bytes.ensures,
+      none_at at s,
+      step 0 (omega arith),
+      step 1 (omega arith),
+      step 2 (omega arith),
+      step 3 (omega arith),
+      step 4 (omega arith),
+      step 5 (omega arith),
+      step 6 (omega arith),
+      step 7 (omega arith),
+    )

@@ -1,6 +1,0 @@
--- `byte_slices::find`: no byte that was passed is of the kind.
-use Rattle.std.proofs.Common.{◌≡◌, ℕ, ◌≤◌, ◌<◌, get_or}
-use Rattle.byte_slices.proofs.find.Given as goal
-
-abbrev pub invariant-loop-i : goal.invariant-loop-i
-invariant-loop-i l = (k : ℕ) → l.from ≤ k → k < l.i → get_or l.bytes k 0 ≡ l.byte → ⊥
