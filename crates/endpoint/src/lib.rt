@@ -57,6 +57,7 @@ impl HasId for Request {
 }
 
 // The live requests, oldest first: the first `count` rows.
+// Stays: an array with a count and no vector of fixed room, since the malformed rule is about a count over LIVE_MAX too.
 #[derive(Clone, Copy)]
 pub struct Requests {
     pub rows: [Request; LIVE_MAX],

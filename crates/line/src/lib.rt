@@ -30,7 +30,8 @@ pub struct Part {
 
 // What was decided: the item, or `None` for *more*, how many new bytes it takes, the part of the array that is to be held, and where
 // the payload of a message begins. The payload stays where it stands until `settle` puts that part at the front.
-// Stays: a `Place` and no Option of one, since `answer` says already whether there is a payload.
+// Stays: a `Place` and no Option of one, since `answer` says already whether there is a payload; `start` and `count` and no `Part`,
+// since `settle` takes any that lie in the slice it is lent.
 #[derive(Clone, Copy)]
 pub struct Decision {
     pub answer: Option<Item>,

@@ -13,6 +13,7 @@ use line_deciding::decide;
 // The next item of the array's first count bytes and of the new ones; the bytes held then stand at the front. For the crates above,
 // which have refused a count over HELD_MAX: it is their malformed endpoint.
 // Ruled out: a byte taken that the item does not need, and held bytes lost when there are no new ones.
+// Stays: an array and its count and no vector of fixed room, since they are a part of the store that the host lends.
 pub fn receive(array: &mut [u8; HELD_MAX], count: usize, new: &[u8]) -> Received
     requires { count ≤ held_max }
     ensures { Receives result (take count array.old) new.now array.new }

@@ -12,6 +12,7 @@ use message::header::{
 };
 use message::{Seq, WriteError};
 
+// Stays: place, TYPE, SEQ and payload one by one and no struct of them, as `fizrahum_write` has them and the pages name them.
 // Places a message at a place of the buffer, and answers its length. All other bytes stay; a refusal leaves every byte.
 pub fn write(
     buffer: &mut [u8],

@@ -34,6 +34,7 @@ fn in_flight() -> State {
     })
 }
 
+// Stays: a sample of its own, beside those of `malformed`: what the two programs share is less than a crate for it.
 fn request(id: u16, state: State) -> Request {
     Request {
         id: RequestId(id),
