@@ -3,6 +3,7 @@ ghost use Rattle.std.specs.Prelude.{◌≡◌, ◌+◌, ◌≤◌, length, take,
 ghost use Rattle.checksum_words.specs.Remainders.{number, number_from};
 
 // The two bytes from a place on.
+// Stays: three functions of a line each and no generic one, since std has no trait that says `from_be_bytes` of each type.
 pub(crate) fn pair(bytes: &[u8], at: usize) -> u16
     requires { at + 2 ≤ length bytes.now }
     ensures { result ≡ number (take 2 (drop at bytes.now)) }

@@ -24,6 +24,7 @@ pub fn put_command(output: &mut [u8], seq: Seq, fields: Fields, id: RequestId, d
     message_writer::write_around(output, 0, DATA_SEQ, seq, len).unwrap()
 }
 
+// Stays: room for ten bytes is a clause here and above and no array, since callers lend a buffer of any length from ten on.
 // Puts an ACK with this SEQ at the front of the reply, and answers its length. For the ends of the line, which lend room for it.
 // Ruled out: an ACK with another SEQ, and a reply of more than its ten bytes.
 pub fn put_ack(reply: &mut [u8], seq: Seq) -> usize
