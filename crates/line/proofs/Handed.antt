@@ -10,7 +10,7 @@ use Rattle.message.proofs.Found.{scan_within}
 use Rattle.line.specs.Cuts.{found, before, on_answer, handed_in, handed, handed_each, joined}
 use Rattle.line.specs.Receiving.{smallest, taken, receive}
 use Rattle.line.proofs.Got.{Got, got_more, got_item, got}
-use Rattle.line.proofs.Later.{after, item_stays, more_then}
+use Rattle.line.proofs.Later.{item_stays, more_then}
 
 -- how many bytes there are to go through
 abbrev pub size : List ℕ → List ℕ → ℕ

@@ -1,5 +1,4 @@
 -- `host_acting::act` meets its contract: the bytes are settled, and the change is carried out.
-use native.Mathlib.Omega.{arith}
 use Rattle.refinement.proofs.Sound.{few_of, fits_of}
 use Rattle.host_acting.proofs.Acting.{Settled, acted}
 use Rattle.host_acting.proofs.act.Goals as goal

@@ -1,5 +1,5 @@
 -- `line_deciding::decide` meets its contract: an item of the held bytes alone, or what new bytes make of them.
-use mathlib.Core.Path.{◌≡◌, sym, ap, ◌∙◌}
+use mathlib.Core.Path.{◌≡◌, sym, ap}
 use native.Mathlib.Omega.{arith}
 use lib.ListN.{length, take}
 use lib.Seq.{length-take-le}
