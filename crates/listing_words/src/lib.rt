@@ -1,6 +1,7 @@
 // The words and numbers of a listing (document 01, "Capture lister"), each put behind what a vector of fixed room holds: for
 // `listing_lines`, which makes lines of them.
-// Stays: text by a match and no Display, since an impl stands beside its type alone, and those crates know no listing.
+// Stays: text by a match and no Display, since an impl stands beside its type, which knows no listing; a type of its own around each would be
+// longer, and the contracts here say how much room is needed too.
 #![tactic(auto)]
 
 ghost use Rattle.std.specs.Prelude.{◌≡◌, ◌++◌, ◌+◌, ◌≤◌, ◌<◌, length};

@@ -33,7 +33,7 @@ impl Script {
 
     // Reads until the input ends or something is wrong. A proved loop has to end, and nothing says that an input does: so it counts
     // up to a number that no run reaches.
-    // Stays: the lister counts its turns likewise; one function for both would take a closure that holds reader and writer.
+    // Stays: the lister counts its turns likewise, but its contract says of them what was read and written.
     pub(crate) fn run<R: Read, W: Write>(
         &mut self,
         input: &mut R,

@@ -1,6 +1,7 @@
 // The answer to each call as a line of text, put behind what a vector of fixed room holds. Each asks for room, which the caller has
 // seen to.
-// Stays: text by a match and no Display, since an impl stands beside its type alone, and those crates know no transcript.
+// Stays: text by a match and no Display, since an impl stands beside its type, which knows no transcript; a type of its own around each would be
+// longer, and the contracts here say how much room is needed too.
 ghost use Rattle.std.specs.Prelude.{◌+◌, ◌≤◌, length};
 ghost use Rattle.texts.specs.Text.{Puts};
 ghost use Rattle.transcript.specs.Lines.{open_text, submit_text, judged_text, receipt_text, receive_text, poll_text, end_text};

@@ -1,5 +1,6 @@
 // The parts of an answer as text, each put behind what a vector of fixed room holds.
-// Stays: text by a match and no Display, since an impl stands beside its type alone, and those crates know no transcript.
+// Stays: text by a match and no Display, since an impl stands beside its type, which knows no transcript; a type of its own around each would be
+// longer, and the contracts here say how much room is needed too.
 ghost use Rattle.std.specs.Prelude.{◌+◌, ◌≤◌, length};
 ghost use Rattle.texts.specs.Text.{Puts};
 ghost use Rattle.transcript.specs.Lines.{one_text, item_text, command_text, word_text, lent_text, ended_text};

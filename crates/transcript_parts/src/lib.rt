@@ -1,6 +1,7 @@
 // The parts of a line that tell whom a command addresses and how a request ended, as text: for `transcript`. Each is put behind
 // what a vector of fixed room holds.
-// Stays: text by a match and no Display, since an impl stands beside its type alone, and those crates know no transcript.
+// Stays: text by a match and no Display, since an impl stands beside its type, which knows no transcript; a type of its own around each would be
+// longer, and the contracts here say how much room is needed too.
 #![tactic(auto)]
 
 ghost use Rattle.std.specs.Prelude.{◌+◌, ◌≤◌, length};
