@@ -4,7 +4,7 @@
 
 pub mod rooms; // the data of a request in the store
 
-ghost use Rattle.std.specs.Prelude.{◌≡◌, List, [], ◌∷◌, ◌++◌, ℕ, ◌≤◌, ◌<◌, length, take, set};
+ghost use Rattle.std.specs.Prelude.{◌≡◌, List, [], ◌∷◌, ◌++◌, ℕ, ◌≤◌, ◌<◌, length, take, set, Some};
 ghost use Rattle.command.specs.Payload.{max_data};
 ghost use Rattle.ledger.specs.Parts.{live_max};
 ghost use Rattle.endpoint.specs.Endpoint.{request_of, live_of};
@@ -16,10 +16,9 @@ use endpoint::{Request, Requests, STORE_LENGTH, State};
 use ledger::Cause;
 use rooms::{fill, move_up};
 
-// What a call does to the live requests: nothing, the one in a row turns into another state, or it leaves for a cause.
+// What a call does to the live requests, if anything: the one in a row turns into another state, or it leaves for a cause.
 #[derive(Clone, Copy)]
 pub enum Change {
-    Nothing,
     Turn(usize, State),
     End(usize, Cause),
 }
@@ -27,21 +26,21 @@ pub enum Change {
 // Carries out a change. Asks for rows that fit and a row in use: the callers have refused a malformed endpoint, and a search has found
 // the row.
 // Ruled out: another request touched than the one named, and an ended request's data left to the next one.
-pub fn carry_out(live: Requests, store: &mut [u8; STORE_LENGTH], change: Change) -> Requests
+pub fn carry_out(live: Requests, store: &mut [u8; STORE_LENGTH], change: Option<Change>) -> Requests
     requires { Fits live × Names change live.count }
     ensures { Becomes result (changed change (live_of live store.old)) store.old store.new }
 {
     match change {
-        Change::Nothing => live,
-        Change::Turn(row, state) => turned(live, row, state),
-        Change::End(row, _) => without(live, store, row),
+        Some(Change::Turn(row, state)) => turned(live, row, state),
+        Some(Change::End(row, _)) => without(live, store, row),
+        None => live,
     }
 }
 
 // The request in a row goes into another state.
 fn turned(live: Requests, row: usize, state: State) -> Requests
     requires { Fits live × (row < live.count) }
-    ensures { (store : List ℕ) → Becomes result (changed (Turn row state) (live_of live store)) store store }
+    ensures { (store : List ℕ) → Becomes result (changed (Some (Turn row state)) (live_of live store)) store store }
 {
     let it = Request {
         state,
