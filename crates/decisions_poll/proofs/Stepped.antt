@@ -6,7 +6,7 @@ use mathlib.Core.Option.{none, some}
 use mathlib.Core.Path.{◌≡◌, refl, sym, ap, ◌∙◌}
 use native.Mathlib.Omega.{arith}
 use lib.ListN.{length}
-use Rattle.std.specs.Prelude.{Some, None}
+use Rattle.std.specs.Prelude.{Option, Some, None}
 use Rattle.std.specs.List.{position}
 use Rattle.std.proofs.lemmas.List.{length-take}
 use Rattle.link.specs.Frames as link
@@ -30,7 +30,7 @@ use Rattle.link.specs.declared.frame.Frame.{Frame}
 use Rattle.live_search.proofs.Searched.{Finds, row_at, none_found, one_found, found_row, flying_state}
 use Rattle.decisions_poll.specs.Steps.{sent_from, step_of, Reaches, Steps, frame_act}
 use Rattle.decisions_poll.specs.declared.Step.{Step}
-use Rattle.decisions_poll.specs.declared.Step.TheVariants.{End, Again, First, Quiet}
+use Rattle.decisions_poll.specs.declared.Step.TheVariants.{End, Again, First}
 
 -- a step that applies in a case, or else another
 in_case : (b : Bool) (a other : polling.Act) → or_else (if b (some a) none) other ≡ if b a other
@@ -39,7 +39,7 @@ in_case false a other = refl
 
 -- the steps, from what the three searches come to
 module _ (l : Ledger) (clock row : ℕ) where
-  overdue_acts : Finds (λ q. overdue_in clock q.state) l.live row → polling.act l clock ≡ step_of (End row NoResponse) l clock
+  overdue_acts : Finds (λ q. overdue_in clock q.state) l.live row → polling.act l clock ≡ step_of (Some (End row NoResponse)) l clock
   unfolding polling.act
   overdue_acts o = rw o.found
 
@@ -49,11 +49,11 @@ module _ (l : Ledger) (clock row : ℕ) where
     frame_acts o = rw (none-overdue, o.found) (in_case (due o.what clock) _ _)
 
     module _ (none_flies : oldest flies l.live ≡ nobody) where
-      first_acts : Finds (λ q. queued_in q.state) l.live row → polling.act l clock ≡ step_of (First row) l clock
+      first_acts : Finds (λ q. queued_in q.state) l.live row → polling.act l clock ≡ step_of (Some (First row)) l clock
       unfolding polling.act
       first_acts o = rw (none-overdue, none_flies, o.found)
 
-      quiet_acts : oldest (λ q. queued_in q.state) l.live ≡ nobody → polling.act l clock ≡ step_of Quiet l clock
+      quiet_acts : oldest (λ q. queued_in q.state) l.live ≡ nobody → polling.act l clock ≡ step_of None l clock
       unfolding polling.act
       quiet_acts none-waits = rw (none-overdue, none_flies, none-waits)
 
@@ -62,15 +62,15 @@ module _ (l : Ledger) (clock row : ℕ) {state : State} {g : Frame} (is : state 
   same_frame : f ≡ frame_of g
   same_frame = let both = sym (ap state_of is) ∙ in-flight in cc
 
-  pub not_due : due (frame_of g) clock ≡ false → step_of Quiet l clock ≡ frame_act l clock f row
+  pub not_due : due (frame_of g) clock ≡ false → step_of None l clock ≡ frame_act l clock f row
   not_due h = rw (same_frame, h)
 
   pub goes_again : due (frame_of g) clock ≡ true → may_go_again (frame_of g) ≡ true → (again : Frame) → frame_of again ≡ sent_again (frame_of g) clock
-      → step_of (Again row again) l clock ≡ frame_act l clock f row
+      → step_of (Some (Again row again)) l clock ≡ frame_act l clock f row
   goes_again h more again is-again = ap (λ (it : link.Frame). sent_from l clock it l.next_seq row) is-again ∙ rw (same_frame, h, more)
 
   pub given_up : due (frame_of g) clock ≡ true → may_go_again (frame_of g) ≡ false
-      → step_of (End row NoAcknowledgement) l clock ≡ frame_act l clock f row
+      → step_of (Some (End row NoAcknowledgement)) l clock ≡ frame_act l clock f row
   given_up h no_more = rw (same_frame, h, no_more)
 
 -- the tests of the three searches
@@ -89,7 +89,7 @@ in_count live row less = omega (arith, length-take {A = Request})
 
 -- the same for the rows that were searched
 module _ (live : Requests) (clock : ℕ) (row : ℕ) where
-  pub steps_overdue : position (overdue clock) (rows_of live) ≡ Some row → Steps (End row NoResponse) live clock
+  pub steps_overdue : position (overdue clock) (rows_of live) ≡ Some row → Steps (Some (End row NoResponse)) live clock
   steps_overdue one = record {
     acts = λ l store same.
         overdue_acts l clock row
@@ -102,7 +102,7 @@ module _ (live : Requests) (clock : ℕ) (row : ℕ) where
     no_wait l store same =
         none_found (λ q. overdue_in clock q.state) (overdue clock) (λ q b. refl) (rows_of live) l.live store same none-overdue
 
-    pub steps_frame : position flying (rows_of live) ≡ Some row → (s : Step)
+    pub steps_frame : position flying (rows_of live) ≡ Some row → (s : Option Step)
         → ((l : Ledger) (f : link.Frame) → state_of (row_at (rows_of live) row).state ≡ in_flight f → step_of s l clock ≡ frame_act l clock f row)
         × ((n : ℕ) → row < n → Reaches s n)
         → Steps s live clock
@@ -119,7 +119,7 @@ module _ (live : Requests) (clock : ℕ) (row : ℕ) where
       no_flight : (l : Ledger) (store : List ℕ) → l.live ≡ live_of live store → oldest flies l.live ≡ nobody
       no_flight l store same = none_found flies flying (λ q b. refl) (rows_of live) l.live store same none_flying
 
-      pub steps_first : position waits (rows_of live) ≡ Some row → Steps (First row) live clock
+      pub steps_first : position waits (rows_of live) ≡ Some row → Steps (Some (First row)) live clock
       steps_first one = record {
         acts = λ l store same.
             first_acts l clock row (no_wait l store same) (no_flight l store same)
@@ -127,7 +127,7 @@ module _ (live : Requests) (clock : ℕ) (row : ℕ) where
         reaches = in_count live row (position_one waits (rows_of live) row one).1;
       }
 
-      pub steps_quiet : position waits (rows_of live) ≡ None → Steps Quiet live clock
+      pub steps_quiet : position waits (rows_of live) ≡ None → Steps None live clock
       steps_quiet none-queued = record {
         acts = λ l store same.
             quiet_acts l clock row (no_wait l store same) (no_flight l store same)

@@ -9,7 +9,7 @@ ghost use Rattle.ledger.specs.Polling.{overdue_in, queued_in};
 ghost use Rattle.endpoint.specs.Endpoint.{state_of, request_of};
 ghost use Rattle.live_search.specs.Searching.{is_shown, command_with};
 
-use command::{Fields, RequestId};
+use command::Head;
 use endpoint::{RESPONSE_TIME, Request, State};
 use message::Seq;
 
@@ -48,8 +48,8 @@ pub fn is_acknowledged(state: State, seq: Seq) -> bool
 // In flight or waiting, with a response wanted, the same ID, and fields that the command's answer.
 // Ruled out: a request with the same ID and other fields, and one that was not sent.
 #[tactic(auto, unfolding(ledger::specs::Receiving::matches))]
-pub fn is_answered(q: &Request, fields: Fields, id: RequestId) -> bool
-    ensures { result ≡ matches (command_with (fields_of fields) id.0 0) (request_of q.now []) }
+pub fn is_answered(q: &Request, head: Head) -> bool
+    ensures { result ≡ matches (command_with (fields_of head.fields) head.id.0 0) (request_of q.now []) }
 {
-    !is_queued(q.state) && q.wanted && q.id == id && q.fields.is_answered_by(fields)
+    !is_queued(q.state) && q.wanted && q.id == head.id && q.fields.is_answered_by(head.fields)
 }

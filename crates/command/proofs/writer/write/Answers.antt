@@ -35,6 +35,6 @@ left f i n d l head x fits first count second =
 pub returns : goal.returns
 returns c =
     let a = c.args in
-    left (fields_of a.fields) a.id.0 _ a.«data».now a.part.now _ _ (omega arith)
+    left (fields_of a.head.fields) a.head.id.0 _ a.«data».now a.part.now _ _ (omega arith)
     c.write_head.ensures
     c.copy-len.ensures.count c.copy-len.ensures.whole

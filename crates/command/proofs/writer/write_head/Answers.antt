@@ -13,7 +13,7 @@ use Rattle.command.proofs.writer.write_head.Goals as goal
 pub returns : goal.returns
 unfolding payload le16
 returns c =
-    let f = c.args.fields in
+    let f = c.args.head.fields in
     copied_front _ _ c.args.part.now _
-    (ap (λ (b : List ℕ). command_mark ∷ f.tc ∷ f.tid ∷ f.sid ∷ f.iid ∷ get_or b 0 0 ∷ get_or b 1 0 ∷ f.cid ∷ []) (c.to_le_bytes.ensures ∙ le16_bytes c.args.id.0 (omega arith)))
+    (ap (λ (b : List ℕ). command_mark ∷ f.tc ∷ f.tid ∷ f.sid ∷ f.iid ∷ get_or b 0 0 ∷ get_or b 1 0 ∷ f.cid ∷ []) (c.to_le_bytes.ensures ∙ le16_bytes c.args.head.id.0 (omega arith)))
     c.copy.ensures.whole
