@@ -2,7 +2,7 @@
 use Prim.Native.Nat.{ℕ}
 use mathlib.Core.Bool.{true, false}
 use mathlib.Core.List.{List}
-use mathlib.Core.Path.{◌≡◌, refl, sym, ap}
+use mathlib.Core.Path.{◌≡◌, refl, ap}
 use lib.ListN.{length}
 use native.Mathlib.Omega.{arith}
 use borrow.Author.Tests.{ne_eqb}
@@ -32,7 +32,6 @@ names_in_count : (live : Requests) (change : Option Change) → Names change (le
 names_in_count live None named = tt
 names_in_count live (Some (Turn row state)) named = omega (arith, length-take {A = Request})
 names_in_count live (Some (End row cause)) named = omega (arith, length-take {A = Request})
-
 
 named : (live : Requests) (rows : List Request) → rows ≡ rows_of live → {change next : Option Change} → next ≡ change → Names change (length rows)
     → Names next live.count
