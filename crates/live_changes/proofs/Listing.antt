@@ -6,7 +6,7 @@ use mathlib.Core.Path.{◌≡◌, refl, ap}
 use native.Mathlib.Nat.{add-zero}
 use native.Mathlib.Omega.{arith}
 use lib.Dec.{ltb}
-use lib.ListN.{length, take, get_or, set}
+use lib.ListN.{length, take, drop, get_or, set}
 use borrow.Author.Tests.{ltb-false, le-ltb}
 use Rattle.command.specs.Payload.{max_data}
 use Rattle.ledger.specs.Parts.{live_max}
@@ -46,9 +46,18 @@ short_take zero qs h = refl
 short_take (suc n) [] h = h
 short_take (suc n) (q ∷ qs) h = short_both q (take n qs) (short_first q qs h) (short_take n qs (short_others q qs h))
 
-pub short_join : (qs : List Request) (q : Request) → too_long qs ≡ false → q.len ≤ max_data → too_long (qs ++ (q ∷ [])) ≡ false
-short_join [] q h s = short_both q [] s h
-short_join (p ∷ qs) q h s = short_both p (qs ++ (q ∷ [])) (short_first p qs h) (short_join qs q (short_others p qs h) s)
+pub short_drop : (n : ℕ) (qs : List Request) → too_long qs ≡ false → too_long (drop n qs) ≡ false
+short_drop zero qs h = h
+short_drop (suc n) [] h = h
+short_drop (suc n) (q ∷ qs) h = short_drop n qs (short_others q qs h)
+
+pub short_append : (qs rs : List Request) → too_long qs ≡ false → too_long rs ≡ false → too_long (qs ++ rs) ≡ false
+short_append [] rs h g = g
+short_append (q ∷ qs) rs h g = short_both q (qs ++ rs) (short_first q qs h) (short_append qs rs (short_others q qs h) g)
+
+pub short_one : (q : Request) → q.len ≤ max_data → too_long (q ∷ []) ≡ false
+unfolding too_long
+short_one q h = short_both q [] h refl
 
 pub short_at : (qs : List Request) (i : ℕ) → too_long qs ≡ false → (get_or qs i blank_row).len ≤ max_data
 short_at [] i h = omega arith
@@ -62,16 +71,42 @@ requests_take zero k qs s = refl
 requests_take (suc n) k [] s = refl
 requests_take (suc n) k (q ∷ qs) s = ap (request_of q (room_at s k q.len) ∷◌) (requests_take n (suc k) qs s)
 
--- rows whose rooms stay
-pub requests_stay : (k : ℕ) (qs : List Request) (s x : List ℕ)
-    → ((j n : ℕ) → k ≤ j → j < k + length qs → n ≤ max_data → room_at x j n ≡ room_at s j n)
-    → too_long qs ≡ false → requests_from k qs x ≡ requests_from k qs s
+pub requests_drop : (n k : ℕ) (qs : List Request) (s : List ℕ) → requests_from (k + n) (drop n qs) s ≡ drop n (requests_from k qs s)
 unfolding requests_from
-requests_stay k [] s x o h = refl
-requests_stay k (q ∷ qs) s x o h =
-    let own : room_at x k q.len ≡ room_at s k q.len = o k q.len (omega arith) (omega arith) (short_first q qs h) in
-    let rest = requests_stay (suc k) qs s x (λ j n a b c. o j n (omega arith) (omega arith) c) (short_others q qs h) in
-    rw (own, rest)
+requests_drop zero k qs s = rw (add-zero k)
+requests_drop (suc n) k [] s = refl
+requests_drop (suc n) k (q ∷ qs) s =
+    let sum : suc k + n ≡ k + suc n = omega arith in
+    rw sum at (requests_drop n (suc k) qs s)
+
+-- and of the others
+pub requests_append : (k : ℕ) (qs rs : List Request) (s : List ℕ)
+    → requests_from k (qs ++ rs) s ≡ requests_from k qs s ++ requests_from (k + length qs) rs s
+unfolding requests_from
+requests_append k [] rs s = rw (add-zero k)
+requests_append k (q ∷ qs) rs s =
+    let sum : suc k + length qs ≡ k + suc (length qs) = omega arith in
+    ap (request_of q (room_at s k q.len) ∷◌) (rw sum at (requests_append (suc k) qs rs s))
+
+-- the data in n rooms from one on stand in another store in those from another one on
+abbrev pub RoomsMove : (n k j : ℕ) (s x : List ℕ) → Type 0
+RoomsMove n k j s x = (a b m : ℕ) → k ≤ a → a < k + n → a + j ≡ b + k → m ≤ max_data → room_at x a m ≡ room_at s b m
+
+pub requests_move : (k j : ℕ) (qs : List Request) (s x : List ℕ) → RoomsMove (length qs) k j s x → too_long qs ≡ false
+    → requests_from k qs x ≡ requests_from j qs s
+unfolding requests_from
+requests_move k j [] s x o h = refl
+requests_move k j (q ∷ qs) s x o h =
+    let own : room_at x k q.len ≡ room_at s j q.len = o k j q.len (omega arith) (omega arith) (omega arith) (short_first q qs h) in
+    let rest : RoomsMove (length qs) (suc k) (suc j) s x =
+    λ a b m from to off few. o a b m (omega arith) (omega arith) (omega arith) few in
+    rw (own, requests_move (suc k) (suc j) qs s x rest (short_others q qs h))
+
+-- where they stand in the same rooms
+pub requests_stay : (k : ℕ) (qs : List Request) (s x : List ℕ)
+    → ((j m : ℕ) → k ≤ j → j < k + length qs → m ≤ max_data → room_at x j m ≡ room_at s j m)
+    → too_long qs ≡ false → requests_from k qs x ≡ requests_from k qs s
+requests_stay k qs s x o h = requests_move k k qs s x (λ a b m from to off few. let same : a ≡ b = omega arith in rw (← same) (o a m from to few)) h
 
 -- another request in a row, whose room alone changes
 pub requests_set : (k i : ℕ) (qs : List Request) (q : Request) (s x : List ℕ) → OthersStay (k + i) s x → too_long qs ≡ false
@@ -88,12 +123,3 @@ requests_set k (suc i) (p ∷ qs) q s x o h few =
     let stay : OthersStay (suc k + i) s x = rw sum o in
     let rest = rw sum at (requests_set (suc k) i qs q s x stay (short_others p qs h) (omega arith)) in
     rw (own, rest)
-
--- a request behind the others
-pub requests_join : (k : ℕ) (qs : List Request) (q : Request) (x : List ℕ)
-    → requests_from k (qs ++ (q ∷ [])) x ≡ requests_from k qs x ++ (request_of q (room_at x (k + length qs) q.len) ∷ [])
-unfolding requests_from
-requests_join k [] q x = rw (add-zero k)
-requests_join k (p ∷ qs) q x =
-    let sum : suc k + length qs ≡ k + suc (length qs) = omega arith in
-    ap (request_of p (room_at x k p.len) ∷◌) (rw sum at (requests_join (suc k) qs q x))
