@@ -9,12 +9,10 @@ use lib.Dec.{ltb}
 use lib.ListN.{length, take, drop, get_or, set}
 use borrow.Author.Tests.{ltb-false, le-ltb}
 use Rattle.command.specs.Payload.{max_data}
-use Rattle.ledger.specs.Parts.{live_max}
 use Rattle.endpoint.specs.Endpoint.{room_at, request_of, requests_from}
 use Rattle.endpoint.specs.Malformed.{too_long}
 use Rattle.endpoint.specs.declared.Request.{Request}
 use Rattle.endpoint.proofs.Rows.{blank_row}
-use Rattle.live_changes.proofs.Stores.{OthersStay}
 
 -- of two tests neither of which succeeds, each fails
 neither : (a b : Bool) → (a || b) ≡ false → (a ≡ false) × (b ≡ false)
@@ -108,18 +106,12 @@ pub requests_stay : (k : ℕ) (qs : List Request) (s x : List ℕ)
     → too_long qs ≡ false → requests_from k qs x ≡ requests_from k qs s
 requests_stay k qs s x o h = requests_move k k qs s x (λ a b m from to off few. let same : a ≡ b = omega arith in rw (← same) (o a m from to few)) h
 
--- another request in a row, whose room alone changes
-pub requests_set : (k i : ℕ) (qs : List Request) (q : Request) (s x : List ℕ) → OthersStay (k + i) s x → too_long qs ≡ false
-    → k + length qs ≤ live_max
-    → requests_from k (set qs i q) x ≡ set (requests_from k qs s) i (request_of q (room_at x (k + i) q.len))
+-- another request in a row
+pub requests_set : (k i : ℕ) (qs : List Request) (q : Request) (s : List ℕ)
+    → requests_from k (set qs i q) s ≡ set (requests_from k qs s) i (request_of q (room_at s (k + i) q.len))
 unfolding requests_from
-requests_set k i [] q s x o h few = refl
-requests_set k zero (p ∷ qs) q s x o h few =
-    let rest = requests_stay (suc k) qs s x (λ j n a b c. o j n (omega arith) (omega arith) c) (short_others p qs h) in
-    rw (add-zero k, rest)
-requests_set k (suc i) (p ∷ qs) q s x o h few =
-    let own : room_at x k p.len ≡ room_at s k p.len = o k p.len (omega arith) (omega arith) (short_first p qs h) in
+requests_set k i [] q s = refl
+requests_set k zero (p ∷ qs) q s = rw (add-zero k)
+requests_set k (suc i) (p ∷ qs) q s =
     let sum : suc k + i ≡ k + suc i = omega arith in
-    let stay : OthersStay (suc k + i) s x = rw sum o in
-    let rest = rw sum at (requests_set (suc k) i qs q s x stay (short_others p qs h) (omega arith)) in
-    rw (own, rest)
+    ap (request_of p (room_at s k p.len) ∷◌) (rw sum at (requests_set (suc k) i qs q s))
