@@ -1,6 +1,6 @@
 -- The live requests that rows and a store stand for, when a row and its room change: one is replaced, joins, or is the last to go.
 use Prim.Native.Nat.{ℕ, zero, suc, ◌+◌, ◌≤◌, ◌<◌}
-use mathlib.Core.Bool.{Bool, true, false, ◌||◌}
+use mathlib.Core.Bool.{false}
 use mathlib.Core.List.{List, [], ◌∷◌, ◌++◌}
 use mathlib.Core.Path.{◌≡◌, refl, ap}
 use native.Mathlib.Nat.{add-zero}
@@ -12,22 +12,18 @@ use Rattle.command.specs.Payload.{max_data}
 use Rattle.endpoint.specs.Endpoint.{room_at, request_of, requests_from}
 use Rattle.endpoint.specs.Malformed.{too_long}
 use Rattle.endpoint.specs.declared.Request.{Request}
+use Rattle.std.proofs.lemmas.Bool.{or_parts}
 use Rattle.endpoint.proofs.Rows.{blank_row}
-
--- of two tests neither of which succeeds, each fails
-neither : (a b : Bool) → (a || b) ≡ false → (a ≡ false) × (b ≡ false)
-neither true b h = (h, cc)
-neither false b h = (refl, h)
 
 -- data that are not too long: those of the first row, and of the others
 module _ (q : Request) (qs : List Request) where
   short_first : too_long (q ∷ qs) ≡ false → q.len ≤ max_data
   unfolding too_long
-  short_first h = ltb-false max_data q.len (neither (ltb max_data q.len) (too_long qs) h).0
+  short_first h = ltb-false max_data q.len (or_parts (ltb max_data q.len) (too_long qs) h).0
 
   short_others : too_long (q ∷ qs) ≡ false → too_long qs ≡ false
   unfolding too_long
-  short_others h = (neither (ltb max_data q.len) (too_long qs) h).1
+  short_others h = (or_parts (ltb max_data q.len) (too_long qs) h).1
 
   short_both : q.len ≤ max_data → too_long qs ≡ false → too_long (q ∷ qs) ≡ false
   unfolding too_long

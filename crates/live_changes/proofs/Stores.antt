@@ -10,7 +10,7 @@ use lib.ListN.{length, take, drop, length-take, length-drop}
 use lib.Seq.{take_at, drop_at, take-take}
 use borrow.Author.Tests.{ltb-true, ltb-false}
 use Rattle.message.specs.Writing.{placed}
-use Rattle.message.proofs.Buffer.{length_placed, from_placed, beyond_placed}
+use Rattle.message.proofs.Buffer.{from_placed, beyond_placed}
 use Rattle.line.specs.Receiving.{held_max}
 use Rattle.std.specs.List.{copy_within}
 use Rattle.std.proofs.lemmas.List.{drop-take, drop-drop, length-take-le, take-append-le}
@@ -25,9 +25,6 @@ OthersStay row entry exit = (k n : ℕ) → k < live_max → k ≢ row → n ≤
 module _ (row : ℕ) (m l : List ℕ) (long : length l ≡ store_length) (is : row < live_max) (short : length m ≤ max_data) where
   within : room_place row + length m ≤ length l
   within = omega arith
-
-  pub length_filled : length (placed (room_place row) m l) ≡ store_length
-  length_filled = length_placed (room_place row) m l within ∙ long
 
   pub filled : room_at (placed (room_place row) m l) row (length m) ≡ m
   filled =
