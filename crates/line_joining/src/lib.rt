@@ -88,6 +88,7 @@ fn header_item(array: &mut [u8; HELD_MAX], held: Part, item: Item, bytes: &[u8])
 }
 
 // A header that is sound and allowed stands whole in the kept bytes and the new ones.
+#[tactic(auto, using(crate::proofs::Held::part_waits, crate::proofs::Held::part_all_waits))]
 fn after_header(array: &mut [u8; HELD_MAX], held: Part, len: usize, new: &[u8]) -> Decision
     requires { (header_length ≤ held.count + length new.now)
         × (scan (bytes_of held array.old ++ take (header_length - held.count) new.now) ≡ undecided 0)

@@ -30,6 +30,7 @@ pub fn receive(array: &mut [u8; HELD_MAX], count: usize, new: &[u8]) -> Received
 // Puts the bytes to be held at the front of the array and answers how many they are, when the payload is no longer needed. For the
 // crates above, with what `decide` answered for this array.
 // Stays: a slice and no array, since `settle` promises this of a slice of any length that the part lies in, and may not ask more.
+#[tactic(auto, using(line::proofs::Moving::front_moved))]
 pub fn settle(array: &mut [u8], decision: Decision) -> usize
     requires { decision.start + decision.count ≤ length array.old }
     ensures { (result ≡ decision.count)

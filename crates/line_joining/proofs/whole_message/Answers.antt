@@ -9,9 +9,6 @@ use Rattle.line.proofs.Moving.{length_part}
 use Rattle.line.proofs.Whole.{waits_for, compared, gives_message, gives_damaged}
 use Rattle.line_joining.proofs.whole_message.Goals as goal
 
-pub slice_bounds-append_behind_syn-end : goal.slice_bounds-append_behind_syn-end
-slice_bounds-append_behind_syn-end c = sym (length-take-le _ _ (omega arith))
-
 pub append_behind_syn-requires : goal.append_behind_syn-requires
 append_behind_syn-requires c =
     let p = c.requires in
