@@ -55,6 +55,7 @@ impl Found {
     }
 
     // How many of the new bytes decided the item: up to the end of its header, or of the whole message.
+    #[tactic(auto, using(message::proofs::Buffer::tail, message::proofs::Found::scan_within, message::proofs::Found::message_at, line::proofs::Gives::ends, line::proofs::Reach::reach_within, line::proofs::Taking::taken_new))]
     fn deciding_length(self, new: &[u8]) -> usize
         requires { scan new.now ≡ scan_with self.dropped (Some self.first) }
         ensures { (result ≡ taken [] new.now) × (self.dropped + self.first.removed ≤ result) × (self.dropped + header_length ≤ result)

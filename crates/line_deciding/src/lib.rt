@@ -37,6 +37,7 @@ pub fn decide(array: &mut [u8; HELD_MAX], count: usize, new: &[u8]) -> Decision
 }
 
 // No item of the held bytes: those that are dropped go, and what is left may begin a message.
+#[tactic(auto, using(line::proofs::Dropped::drops, line::proofs::Dropped::all_dropped, line::proofs::Dropped::waits, line::proofs::Dropped::receives, line::proofs::Moving::length_part, line::proofs::Start::decides_same, line::proofs::Start::broken))]
 fn without_dropped(array: &mut [u8; HELD_MAX], dropped: usize, count: usize, new: &[u8]) -> Decision
     requires { (count ≤ held_max) × (scan (take count array.old) ≡ undecided dropped) }
     ensures { Decides result (take count array.old) new.now array.new }
@@ -63,6 +64,7 @@ fn breaks_syn(kept: usize, new: &[u8]) -> bool
 }
 
 // Nothing is held: an item is read where the new bytes stand.
+#[tactic(auto, using(message::proofs::Buffer::tail, line::proofs::Gives::dropped_in, line::proofs::Gives::undecided_left, line::proofs::Gives::gives_more, line::proofs::Gives::front_placed))]
 fn in_new(array: &mut [u8; HELD_MAX], new: &[u8]) -> Decision
     ensures { Decides result [] new.now array.new }
 {
