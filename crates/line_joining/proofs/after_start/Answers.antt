@@ -17,19 +17,6 @@ all_wait-requires c =
     let size = length_part a.held.from a.held.count a.array.now (omega arith) in
     (omega arith, start_waits a.held.count held a.new.now size p.0 p.2 p.3 (omega arith))
 
-pub slice_bounds-join_header-end-2 : goal.slice_bounds-join_header-end-2
-slice_bounds-join_header-end-2 c = sym (length-take-le _ _ (omega arith))
-
-pub join_header-header-requires : goal.join_header-header-requires
-join_header-header-requires c =
-    let a = c.args in
-    rw (
-      add-sub_cancel_left a.held.from a.held.count,
-      length_part a.held.from a.held.count a.array.now (omega arith),
-      length-take-le (8 - a.held.count) a.new.now (omega arith),
-    )
-    (omega arith)
-
 pub after_header-requires : goal.after_header-requires
 after_header-requires c =
     let p = c.requires in
@@ -44,14 +31,6 @@ after_header-requires c =
     let w = header_waits a.held.count held a.new.now size p.0 p.2 (8 - a.held.count) (omega arith) (omega arith) p.3
     (sym read) in
     (omega arith, w, rw header at c.len_in-len.ensures.0, c.len_in-len.ensures.1)
-
-pub slice_bounds-header_item-end : goal.slice_bounds-header_item-end
-slice_bounds-header_item-end c = sym (length-take-le _ _ (omega arith))
-
-pub header_item-requires : goal.header_item-requires
-header_item-requires c =
-    let a = c.args in
-    rw (length-take-le (8 - a.held.count) a.new.now (omega arith)) (omega arith)
 
 pub returns : goal.returns
 returns c =

@@ -35,12 +35,6 @@ module _ (from kept : ℕ) (m l : List ℕ) (within : from + kept ≤ length l) 
       rw (drop-append-le 2 (take kept (drop from l)) m (omega (arith, size)), part, second, first)
       (rw count at (neighbours_front (take (kept - 2) (drop (from + 2) l)) m l (omega (arith, count))))
 
-pub returns-then-held-lt-SYN_LENGTH : goal.returns-then-held-lt-SYN_LENGTH
-returns-then-held-lt-SYN_LENGTH c =
-    let a = c.args in
-    within-syn a.held.from a.held.count a.bytes.now a.array.now (omega arith) (omega arith)
-    c.put_at.ensures
-
 pub returns : goal.returns
 returns c =
     let a = c.args in
