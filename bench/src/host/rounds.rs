@@ -118,7 +118,7 @@ impl<Checksum: Fn(&[u8]) -> u16> Rounds<Checksum> {
             .receive(new, &mut self.reply, &mut self.data, 0, &self.checksum);
         let received = answer.expect("the buffers are long enough");
         let command = match received.word {
-            Word::Event(id, length) | Word::Response(id, length) | Word::Unmatched(id, length) => {
+            Some(Word::Event(id, length) | Word::Response(id, length) | Word::Unmatched(id, length)) => {
                 u64::from(id) ^ (length as u64) << 16
             }
             _ => 0,

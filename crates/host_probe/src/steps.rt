@@ -3,7 +3,7 @@ use command::{Fields, MAX_DATA};
 use endpoint::{Endpoint, STORE_LENGTH};
 use host::{open, poll, receive, submit};
 use host_answers::{PollAnswer, PollOutcome, Polled, Receipt, SubmitAnswer};
-use ledger::{Ending, Word};
+use ledger::{Ending, Refusal, Word};
 use message::header::{MAX_LEN, OVERHEAD};
 
 // The shortest buffers that no call refuses: a message without a payload, and the longest.
@@ -63,10 +63,11 @@ fn submit_one(tally: Tally, store: &mut [u8; STORE_LENGTH]) -> Tally {
 }
 
 fn submit_number(answer: SubmitAnswer) -> u64 {
-    match answer {
-        Ok(id) => id.0 as u64,
-        Err(refusal) => refusal.number() as u64,
-    }
+    answer.map_or_else(refusal_number, |id| id.0 as u64)
+}
+
+fn refusal_number(refusal: Refusal) -> u64 {
+    refusal.number() as u64
 }
 
 // A poll with an output of its least length.
@@ -103,9 +104,8 @@ fn poll_number(answer: PollAnswer) -> u64 {
     match answer {
         Ok(PollOutcome::Sent(len)) => len as u64,
         Ok(PollOutcome::Ended(ending)) => ending.id.0 as u64,
-        Ok(PollOutcome::Quiet(Some(ms))) => ms,
-        Ok(PollOutcome::Quiet(None)) => 0,
-        Err(refusal) => refusal.number() as u64,
+        Ok(PollOutcome::Quiet(time)) => time.unwrap_or(0),
+        Err(refusal) => refusal_number(refusal),
     }
 }
 
@@ -177,17 +177,14 @@ fn receipt_number(receipt: Receipt) -> u64 {
 }
 
 fn ending_number(ending: Option<Ending>) -> u64 {
-    match ending {
-        None => 0,
-        Some(it) => it.id.0 as u64,
-    }
+    ending.map_or(0, |it| it.id.0 as u64)
 }
 
-fn word_number(word: Word) -> u64 {
+fn word_number(word: Option<Word>) -> u64 {
     match word {
-        Word::Event(it) | Word::Response(it) | Word::Unmatched(it) => {
+        Some(Word::Event(it) | Word::Response(it) | Word::Unmatched(it)) => {
             (it.id.0 as u64) ^ ((it.len as u64) << 16)
         }
-        _ => 0,
+        Some(Word::Stray | Word::Repeat | Word::NotCommand) | None => 0,
     }
 }

@@ -8,10 +8,9 @@ use binding::{DAMAGED_HEADER, DAMAGED_PAYLOAD};
 
 const REPLY: usize = 10;
 
-/// The word that a message earns, with a command's ID and data length.
+/// A word that a message earns, with a command's ID and data length.
 #[derive(Clone, Copy, Debug, PartialEq, Eq)]
 pub enum Word {
-    Nothing,
     Stray,
     Repeat,
     NotCommand,
@@ -20,10 +19,10 @@ pub enum Word {
     Unmatched(u16, usize),
 }
 
-/// The item with the bytes taken, the word, the reply's length and the ID of a request that ended.
+/// The item with the bytes taken, the word, if any, the reply's length and the ID of a request that ended.
 pub struct Received {
     pub item: line::Received,
-    pub word: Word,
+    pub word: Option<Word>,
     pub replied: usize,
     pub ended: Option<u16>,
 }
@@ -50,7 +49,7 @@ impl Plain {
             return Err(BUFFER_SHORT);
         }
         book.clock = clock;
-        let (mut word, mut ended, mut replied) = (Word::Nothing, None, 0);
+        let (mut word, mut ended, mut replied) = (None, None, 0);
         let item = line.receive_with(new, &checksum, |header, payload| {
             (word, ended) = book.act(header, payload, data);
             if header.kind == DATA_SEQ {
@@ -69,14 +68,14 @@ impl Plain {
     }
 }
 
-type Act = (Word, Option<u16>);
+type Act = (Option<Word>, Option<u16>);
 
 impl Book {
     fn act(&mut self, header: Header, payload: &[u8], data: &mut [u8]) -> Act {
         match header.kind {
             ACK => self.acknowledged(header.seq),
             NAK => self.not_acknowledged(),
-            DATA_SEQ if self.last_seq.replace(header.seq) == Some(header.seq) => (Word::Repeat, None),
+            DATA_SEQ if self.last_seq.replace(header.seq) == Some(header.seq) => (Some(Word::Repeat), None),
             _ => self.commanded(payload, data),
         }
     }
@@ -85,32 +84,32 @@ impl Book {
         match self.in_flight() {
             Some((row, flight)) if flight.seq == seq => {
                 if !self.live[row].wanted {
-                    return (Word::Nothing, Some(self.end(row)));
+                    return (None, Some(self.end(row)));
                 }
                 self.live[row].state = State::Waiting(self.clock);
-                (Word::Nothing, None)
+                (None, None)
             }
-            _ => (Word::Stray, None),
+            _ => (Some(Word::Stray), None),
         }
     }
 
     fn not_acknowledged(&mut self) -> Act {
         let Some((row, mut flight)) = self.in_flight() else {
-            return (Word::Stray, None);
+            return (Some(Word::Stray), None);
         };
         flight.marked = true;
         self.live[row].state = State::InFlight(flight);
-        (Word::Nothing, None)
+        (None, None)
     }
 
     fn commanded(&mut self, payload: &[u8], data: &mut [u8]) -> Act {
         let &[MARK, tc, tid, sid, iid, low, high, cid, ref found @ ..] = payload else {
-            return (Word::NotCommand, None);
+            return (Some(Word::NotCommand), None);
         };
         let id = u16::from_le_bytes([low, high]);
         if 1 <= id && u64::from(id) <= self.r {
             data[..found.len()].copy_from_slice(found);
-            return (Word::Event(id, found.len()), None);
+            return (Some(Word::Event(id, found.len())), None);
         }
         // TID and SID swapped
         let asked = Fields {
@@ -125,9 +124,9 @@ impl Book {
             sent && request.wanted && request.id == id && request.fields == asked
         };
         let Some(row) = self.live[..self.count].iter().position(fits) else {
-            return (Word::Unmatched(id, found.len()), None);
+            return (Some(Word::Unmatched(id, found.len())), None);
         };
         data[..found.len()].copy_from_slice(found);
-        (Word::Response(id, found.len()), Some(self.end(row)))
+        (Some(Word::Response(id, found.len())), Some(self.end(row)))
     }
 }

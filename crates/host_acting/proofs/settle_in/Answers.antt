@@ -6,12 +6,6 @@ use Rattle.line.specs.Receiving.{held_max}
 use Rattle.host_answers.proofs.Held.{length_front, first_lent, rest_lent}
 use Rattle.host_acting.proofs.settle_in.Goals as goal
 
-pub slice_bounds-settle-end-2 : goal.slice_bounds-settle-end-2
-slice_bounds-settle-end-2 c = sym (length_front c.args.store.now c.told-store)
-
-pub settle-requires : goal.settle-requires
-settle-requires c = rw (length_front c.args.store.now c.told-store) c.requires
-
 pub returns : goal.returns
 returns c =
     let settled = c.settle.ensures in
