@@ -18,21 +18,19 @@ pub fn decode(digits: &[u8], bytes: &mut [u8]) -> Result<usize, Fault>
     if digits.is_empty() {
         return Err(Fault::NotPairs);
     }
-    let mut count = 0;
-    for pair in digits.chunks(2) {
+    for (i, pair) in digits.chunks(2).enumerate() {
         let [high, low] = pair else {
             return Err(Fault::NotPairs);
         };
         let (Some(high), Some(low)) = (digit_of(*high), digit_of(*low)) else {
             return Err(Fault::NotPairs);
         };
-        if bytes.len() <= count {
+        let Some(byte) = bytes.get_mut(i) else {
             return Err(Fault::TooManyBytes);
-        }
-        bytes[count] = high * 16 + low;
-        count += 1;
+        };
+        *byte = high * 16 + low;
     }
-    Ok(count)
+    Ok(digits.len() / 2)
 }
 
 // The value of a lowercase hexadecimal digit.
