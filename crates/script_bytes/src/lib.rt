@@ -25,10 +25,10 @@ pub fn decode(digits: &[u8], bytes: &mut [u8]) -> Result<usize, Fault>
         let (Some(high), Some(low)) = (digit_of(*high), digit_of(*low)) else {
             return Err(Fault::NotPairs);
         };
-        let Some(byte) = bytes.get_mut(i) else {
+        if bytes.len() <= i {
             return Err(Fault::TooManyBytes);
-        };
-        *byte = high * 16 + low;
+        }
+        bytes[i] = high * 16 + low;
     }
     Ok(digits.len() / 2)
 }
