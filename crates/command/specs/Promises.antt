@@ -4,7 +4,7 @@ use Rattle.message.specs.Writing.{placed}
 use Rattle.command.specs.Payload as spec
 use Rattle.command.specs.Payload.{head_length, payload, is_command, fields_in, rqid_in}
 use Rattle.command.specs.declared.Fields.{Fields}
-use Rattle.command.specs.declared.reader.Head.{Head}
+use Rattle.command.specs.declared.Head.{Head}
 
 -- the fields of a command
 abbrev pub fields_of : Fields → spec.Fields

@@ -6,17 +6,24 @@ pub mod reader; // a command out of a payload
 mod matching; // which fields answer which
 
 // A request ID: 16 bits, apart from the 8-bit sequence IDs.
-#[derive(Clone, Copy, PartialEq, Eq)]
+#[derive(Clone, Copy, Default, PartialEq, Eq)]
 pub struct RequestId(pub u16);
 
 // What a caller chooses: target category, target ID, source ID, instance ID and command ID.
-#[derive(Clone, Copy, PartialEq, Eq)]
+#[derive(Clone, Copy, Default, PartialEq, Eq)]
 pub struct Fields {
     pub tc: u8,
     pub tid: u8,
     pub sid: u8,
     pub iid: u8,
     pub cid: u8,
+}
+
+// A command without its data.
+#[derive(Clone, Copy)]
+pub struct Head {
+    pub fields: Fields,
+    pub id: RequestId,
 }
 
 // The first byte of a command.

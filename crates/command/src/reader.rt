@@ -3,17 +3,11 @@ ghost use Rattle.std.specs.Prelude.{◌≡◌};
 ghost use Rattle.command.specs.Payload.{data_in};
 ghost use Rattle.command.specs.Promises.{command_in, command_of};
 
-use crate::{COMMAND_MARK, Fields, HEAD_LENGTH, RequestId};
-
-// A command without its data.
-#[derive(Clone, Copy)]
-pub struct Head {
-    pub fields: Fields,
-    pub id: RequestId,
-}
+use crate::{COMMAND_MARK, Fields, HEAD_LENGTH, Head, RequestId};
 
 // The command of a payload, without its data, where it is one.
 // Ruled out: a command of seven bytes, and CID taken from the request ID.
+#[tactic(auto, unfolding(crate::specs::Promises::command_in, crate::specs::Payload::is_command))]
 pub fn read(payload: &[u8]) -> Option<Head>
     ensures { command_of result ≡ command_in payload.now }
 {

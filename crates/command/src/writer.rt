@@ -4,7 +4,7 @@ ghost use Rattle.message.specs.Writing.{placed};
 ghost use Rattle.command.specs.Payload.{head_length, max_data, payload};
 ghost use Rattle.command.specs.Promises.{fields_of, Wrote};
 
-use crate::{COMMAND_MARK, Fields, HEAD_LENGTH, MAX_DATA, RequestId};
+use crate::{COMMAND_MARK, Fields, HEAD_LENGTH, Head, MAX_DATA};
 
 // Whether that is too much data for a command, in bytes: what the crate above asks before it lends a part.
 // Ruled out: 249 bytes let through, and 248 refused.
@@ -18,19 +18,21 @@ pub fn is_too_long(len: usize) -> bool
 // with room for it: it has refused data that is too long.
 // Ruled out: TID and SID in each other's place, RQID with its high byte first, data one byte late or over CID, and a byte behind the
 // command touched.
-pub fn write(part: &mut [u8], fields: Fields, id: RequestId, data: &[u8]) -> usize
+#[tactic(auto, using(crate::proofs::Payloads::head_then_data))]
+pub fn write(part: &mut [u8], head: Head, data: &[u8]) -> usize
     requires { head_length + length «data».now ≤ length part.old }
-    ensures { Wrote result (fields_of fields) id.0 «data».now part.old part.new }
+    ensures { Wrote result (fields_of head.fields) head.id.0 «data».now part.old part.new }
 {
-    write_head(part, fields, id);
+    write_head(part, head);
     let len = byte_slices::copy(data, &mut part[HEAD_LENGTH..]);
     HEAD_LENGTH + len
 }
 
 // The bytes before the data, at the front of the part: a command without any.
-fn write_head(part: &mut [u8], fields: Fields, id: RequestId)
+#[tactic(auto, using(message::proofs::Buffer::copied_front), unfolding(crate::specs::Payload::payload, message::specs::Bytes::le16))]
+fn write_head(part: &mut [u8], head: Head)
     requires { head_length ≤ length part.old }
-    ensures { part.new ≡ placed 0 (payload (fields_of fields) id.0 []) part.old }
+    ensures { part.new ≡ placed 0 (payload (fields_of head.fields) head.id.0 []) part.old }
 {
     let Fields {
         tc,
@@ -38,8 +40,8 @@ fn write_head(part: &mut [u8], fields: Fields, id: RequestId)
         sid,
         iid,
         cid,
-    } = fields;
-    let [low, high] = id.0.to_le_bytes();
-    let head = [COMMAND_MARK, tc, tid, sid, iid, low, high, cid];
-    byte_slices::copy(&head, part);
+    } = head.fields;
+    let [low, high] = head.id.0.to_le_bytes();
+    let bytes = [COMMAND_MARK, tc, tid, sid, iid, low, high, cid];
+    byte_slices::copy(&bytes, part);
 }

@@ -13,14 +13,12 @@ use Rattle.command.specs.Promises as command
 use Rattle.command.specs.Promises.{fields_of}
 use Rattle.command.specs.declared.Fields.{Fields}
 use Rattle.command.specs.declared.RequestId.{RequestId}
-use Rattle.command.specs.declared.reader.Head.{Head}
-use Rattle.link.specs.Promises.{seen_of}
-use Rattle.link.specs.declared.repeats.Seen.{Seen}
+use Rattle.command.specs.declared.Head.{Head}
 use Rattle.ledger.specs.Parts.{Ledger, Search, oldest}
 use Rattle.ledger.specs.Answers as answer
 use Rattle.ledger.specs.Promises.{command_of}
 use Rattle.ledger.specs.Receiving as receiving
-use Rattle.ledger.specs.Receiving.{provided, matches, command_in, remembering, on_response, on_data}
+use Rattle.ledger.specs.Receiving.{provided, matches, command_in, on_response, on_data}
 use Rattle.ledger.specs.declared.Cause.TheVariants.{Response}
 use Rattle.ledger.specs.declared.Command.{Command}
 use Rattle.ledger.specs.declared.Word.TheVariants as word
@@ -29,9 +27,8 @@ use Rattle.endpoint.specs.declared.Request.{Request}
 use Rattle.live_search.specs.Searching.{command_with}
 use Rattle.live_search.proofs.Searched.{Asks, matched, match_asks, none_found, one_found}
 use Rattle.live_changes.specs.declared.Change.TheVariants as change
-use Rattle.decisions_verdict.specs.Verdicts.{act_of}
-use Rattle.decisions_verdict.specs.declared.Verdict.{Verdict}
-use Rattle.decisions_verdict.proofs.Words.{Only, only_act}
+use Rattle.decisions_verdict.specs.Verdicts.{effect_of}
+use Rattle.decisions_verdict.specs.declared.Effect.{Effect}
 
 -- a command: an event, or the request that it answers
 abbrev pub event : Ledger → (payload : List ℕ) → answer.Command → receiving.Act
@@ -45,20 +42,19 @@ answering l c = oldest (λ q. provided (matches c q) tt) l.live
 abbrev pub answered : Command → Request → Bool
 answered it q = matches (command_with (fields_of it.fields) it.id.0 0) (request_of q [])
 
-module _ (l : Ledger) (clock : ℕ) (store payload : List ℕ) (rows : List Request) (same : l.live ≡ requests_from 0 rows store) (seen : Seen)
-    (it : Command) where
+module _ (l : Ledger) (clock : ℕ) (store payload : List ℕ) (rows : List Request) (same : l.live ≡ requests_from 0 rows store) (it : Command) where
   abbrev response : receiving.Act
-  response = remembering (seen_of seen) (on_response l clock (command_of it) (data_in payload) (answering l (command_of it)))
+  response = on_response l clock (command_of it) (data_in payload) (answering l (command_of it))
 
   abbrev asks : Asks (matched (command_of it)) (answered it)
   asks = match_asks (command_of it) it.fields it.id refl refl
 
-  pub response_unmatched : position (answered it) rows ≡ None → {v : Verdict} → Only v (word.Unmatched it) seen → response ≡ act_of v [] payload l.live
-  response_unmatched missing o =
-      rw (none_found (matched (command_of it)) (answered it) asks rows l.live store same missing) (only_act o [] payload l.live)
+  pub response_unmatched : position (answered it) rows ≡ None
+      → response ≡ effect_of (record { word = Some (word.Unmatched it); change = None }) payload l
+  response_unmatched missing = rw (none_found (matched (command_of it)) (answered it) asks rows l.live store same missing)
 
   pub response_ends : (row : ℕ) → position (answered it) rows ≡ Some row
-      → response ≡ act_of (record { word = word.Response it; change = change.End row Response; seen = seen }) [] payload l.live
+      → response ≡ effect_of (record { word = Some (word.Response it); change = Some (change.End row Response) }) payload l
   response_ends row one = rw (one_found (matched (command_of it)) (answered it) asks rows l.live store same one).found
 
 -- data of either kind
@@ -78,12 +74,16 @@ module _ (payload : List ℕ) {r : Option Head} (read : command.command_of r ≡
   unfolding command.command_in
   read_none is = not_command_law payload (is_command payload) (sym (ap command.command_of is) ∙ read)
 
-  pub read_command : (it : Command) → r ≡ Some (record { fields = it.fields; id = it.id }) → it.len ≡ length (data_in payload)
-      → (is_command payload ≡ true) × (command_of it ≡ command_in payload)
-  unfolding command.command_in
-  read_command it is long =
-      let told = is_command_law payload it.fields it.id (is_command payload) (sym (ap command.command_of is) ∙ read) in
-      (told.0, rw (told.1, told.2, long))
+  -- the command that was read
+  module _ {head : Head} (is : r ≡ Some head) {len : ℕ} (long : len ≡ length (data_in payload)) where
+    abbrev pub it : Command
+    it = record { fields = head.fields; id = head.id; len = len }
+
+    pub read_command : (is_command payload ≡ true) × (command_of it ≡ command_in payload)
+    unfolding command.command_in
+    read_command =
+        let told = is_command_law payload head.fields head.id (is_command payload) (sym (ap command.command_of is) ∙ read) in
+        (told.0, rw (told.1, told.2, long))
 
 -- what a command does
 abbrev pub on_command : Ledger → (clock : ℕ) (payload : List ℕ) → answer.Command → receiving.Act
@@ -95,24 +95,25 @@ on_command_law : (l : Ledger) (clock : ℕ) (payload : List ℕ) → is_command 
 unfolding on_data
 on_command_law l clock payload h = rw h
 
-module _ (l : Ledger) (clock : ℕ) (payload : List ℕ) (seen : Seen) where
-  abbrev does : receiving.Act
-  does = remembering (seen_of seen) (on_data l clock payload)
-
-  pub data_none : is_command payload ≡ false → {v : Verdict} → Only v word.NotCommand seen → does ≡ act_of v [] payload l.live
+module _ (l : Ledger) (clock : ℕ) (payload : List ℕ) {r : Option Head} (read : command.command_of r ≡ command.command_in payload) where
+  pub data_none : r ≡ None → on_data l clock payload ≡ effect_of (record { word = Some word.NotCommand; change = None }) payload l
   unfolding on_data
-  data_none h o = rw h (only_act o [] payload l.live)
+  data_none is = rw (read_none payload read is)
 
-  module _ {it : Command} (told : (is_command payload ≡ true) × (command_of it ≡ command_in payload)) {reserved : ℕ} (r : l.reserved ≡ reserved) where
-    as_told : on_data l clock payload ≡ on_command l clock payload (command_of it)
-    as_told = on_command_law l clock payload told.0 ∙ ap (on_command l clock payload) (sym told.1)
+  module _ {head : Head} (is : r ≡ Some head) {len : ℕ} (long : len ≡ length (data_in payload)) {reserved : ℕ} (same : l.reserved ≡ reserved) where
+    abbrev the_command : Command
+    the_command = it payload read is long
 
-    pub data_event : (leb 1 it.id.0 && leb it.id.0 reserved) ≡ true → {v : Verdict} → Only v (word.Event it) seen
-        → does ≡ act_of v [] payload l.live
-    data_event h o = ap (remembering (seen_of seen)) as_told ∙ rw (r, h) (only_act o [] payload l.live)
+    as_told : on_data l clock payload ≡ on_command l clock payload (command_of the_command)
+    as_told =
+        let told = read_command payload read is long in
+        on_command_law l clock payload told.0 ∙ ap (on_command l clock payload) (sym told.1)
 
-    pub data_other : (leb 1 it.id.0 && leb it.id.0 reserved) ≡ false → (v : Verdict)
-        → remembering (seen_of seen) (on_response l clock (command_of it) (data_in payload) (answering l (command_of it)))
-        ≡ act_of v [] payload l.live
-        → does ≡ act_of v [] payload l.live
-    data_other h v is = ap (remembering (seen_of seen)) as_told ∙ rw (r, h) is
+    pub data_event : (leb 1 head.id.0 && leb head.id.0 reserved) ≡ true
+        → on_data l clock payload ≡ effect_of (record { word = Some (word.Event the_command); change = None }) payload l
+    data_event h = as_told ∙ rw (same, h)
+
+    pub data_other : (leb 1 head.id.0 && leb head.id.0 reserved) ≡ false → (e : Effect)
+        → on_response l clock (command_of the_command) (data_in payload) (answering l (command_of the_command)) ≡ effect_of e payload l
+        → on_data l clock payload ≡ effect_of e payload l
+    data_other h e does = as_told ∙ rw (same, h) does

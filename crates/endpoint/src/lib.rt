@@ -28,8 +28,9 @@ pub const RESPONSE_TIME: u64 = 3000;
 pub const STORE_LENGTH: usize = HELD_MAX + LIVE_MAX * MAX_DATA;
 
 // Where a live request stands: queued, its frame in flight, or waiting for its response from a reading of the clock on.
-#[derive(Clone, Copy)]
+#[derive(Clone, Copy, Default)]
 pub enum State {
+    #[default]
     Queued,
     InFlight(Frame),
     Waiting(u64),
@@ -37,7 +38,7 @@ pub enum State {
 
 // A live request: its ID, the fields it was submitted with, whether a response is wanted, how many bytes of data it has, and where
 // it stands. The data of the request in row i are in room i of the store.
-#[derive(Clone, Copy)]
+#[derive(Clone, Copy, Default)]
 pub struct Request {
     pub id: RequestId,
     pub fields: Fields,
@@ -56,9 +57,9 @@ impl HasId for Request {
     }
 }
 
-// The live requests, oldest first: the first `count` rows.
+// The live requests, oldest first: the first `count` rows. By default there are none.
 // Stays: an array with a count and no vector of fixed room, since the malformed rule is about a count over LIVE_MAX too.
-#[derive(Clone, Copy)]
+#[derive(Clone, Copy, Default)]
 pub struct Requests {
     pub rows: [Request; LIVE_MAX],
     pub count: usize,

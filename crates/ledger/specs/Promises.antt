@@ -1,5 +1,5 @@
 -- The paper's values for the enums and the structs that an endpoint answers.
-use Rattle.std.specs.Prelude.{ℕ}
+use Rattle.std.specs.Prelude.{ℕ, Option, Some, None}
 use Rattle.ledger.specs.Answers as spec
 use Rattle.ledger.specs.declared.Cause.{Cause}
 use Rattle.ledger.specs.declared.Cause.TheVariants.{Acknowledged, Response, NoResponse, NoAcknowledgement}
@@ -27,14 +27,14 @@ abbrev pub command_of : Command → spec.Command
 command_of c = record { fields = fields_of c.fields; rqid = c.id.0; length = c.len }
 
 -- "the word below that a message earns, if any"
-abbrev pub word_of : Word → spec.Word
-word_of word.Nothing = spec.no_word
-word_of word.Stray = spec.stray
-word_of word.Repeat = spec.repeat
-word_of word.NotCommand = spec.not_command
-word_of (word.Event c) = spec.event (command_of c)
-word_of (word.Response c) = spec.Word.response (command_of c)
-word_of (word.Unmatched c) = spec.unmatched (command_of c)
+abbrev pub word_of : Option Word → spec.Word
+word_of None = spec.no_word
+word_of (Some word.Stray) = spec.stray
+word_of (Some word.Repeat) = spec.repeat
+word_of (Some word.NotCommand) = spec.not_command
+word_of (Some (word.Event c)) = spec.event (command_of c)
+word_of (Some (word.Response c)) = spec.Word.response (command_of c)
+word_of (Some (word.Unmatched c)) = spec.unmatched (command_of c)
 
 -- "Refusal numbers, tested in this order"
 abbrev pub number_of : Refusal → ℕ

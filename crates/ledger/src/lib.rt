@@ -32,10 +32,9 @@ pub struct Command {
     pub len: usize,
 }
 
-// The word that a message earns, if any.
+// A word that a message earns; an `Option<Word>` is "the word .. that a message earns, if any".
 #[derive(Clone, Copy)]
 pub enum Word {
-    Nothing,
     Stray,
     Repeat,
     NotCommand,
@@ -48,12 +47,12 @@ pub enum Word {
 // 255, data over 248 bytes, three live, a lent buffer too short.
 #[derive(Clone, Copy, PartialEq, Eq)]
 pub enum Refusal {
-    Malformed,
-    ClockBelow,
-    ReservedOver,
-    DataOver,
-    AllLive,
-    BufferShort,
+    Malformed = 1,
+    ClockBelow = 2,
+    ReservedOver = 3,
+    DataOver = 4,
+    AllLive = 5,
+    BufferShort = 6,
 }
 
 impl Refusal {
@@ -62,13 +61,6 @@ impl Refusal {
     pub fn number(self) -> u8
         ensures { result ≡ number_of self }
     {
-        match self {
-            Refusal::Malformed => 1,
-            Refusal::ClockBelow => 2,
-            Refusal::ReservedOver => 3,
-            Refusal::DataOver => 4,
-            Refusal::AllLive => 5,
-            Refusal::BufferShort => 6,
-        }
+        self as u8
     }
 }

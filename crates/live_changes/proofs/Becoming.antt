@@ -5,6 +5,7 @@ use mathlib.Core.Path.{◌≡◌, refl, sym, ◌∙◌}
 use native.Mathlib.Nat.{zero-add}
 use native.Mathlib.Numerals.{add-one}
 use native.Mathlib.Omega.{arith}
+use Rattle.std.specs.Prelude.{Some}
 use lib.ListN.{length, take, get_or, set, length-take, length-set}
 use lib.Seq.{take-set-lt, take-suc-set, take-take, set_split}
 use Rattle.message.specs.Writing.{placed}
@@ -74,7 +75,7 @@ module _ (live : Requests) (full : length live.rows ≡ live_max) (fits : Fits l
 
   -- the request of a row in another state
   pub turned : (row : ℕ) (state : State) (s : List ℕ) → row < live.count
-      → Becomes (with_row live row (in_state state (get_or live.rows row blank_row))) (changed (Turn row state) (live_of live s)) s s
+      → Becomes (with_row live row (in_state state (get_or live.rows row blank_row))) (changed (Some (Turn row state)) (live_of live s)) s s
   turned row state s less =
       let q = in_state state (get_or live.rows row blank_row) in
       let split = set_split (live_of live s) row (request_of q (room_at s row q.len)) (omega (arith, length_live s)) in

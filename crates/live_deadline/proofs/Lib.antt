@@ -1,2 +1,2 @@
 pub mod Times
-pub mod Turns
+pub mod Shortest

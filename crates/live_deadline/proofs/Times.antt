@@ -10,10 +10,6 @@ use Rattle.endpoint.specs.Malformed.{bare_of}
 use Rattle.endpoint.specs.declared.Request.{Request}
 use Rattle.live_deadline.specs.Deadlines.{left_of}
 
-pub earlier_none : (a : Option ℕ) → earlier a none ≡ a
-earlier_none none = refl
-earlier_none (some x) = refl
-
 pub earlier_assoc : (a b c : Option ℕ) → earlier a (earlier b c) ≡ earlier (earlier a b) c
 earlier_assoc none b c = refl
 earlier_assoc (some x) none c = refl

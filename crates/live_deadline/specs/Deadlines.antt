@@ -1,6 +1,6 @@
 -- The time to a deadline, and that no time is later than the clock.
 use Rattle.std.specs.Prelude as std
-use Rattle.std.specs.Prelude.{ℕ, ◌-◌, ◌≤◌, List, [], ◌∷◌, Some, None}
+use Rattle.std.specs.Prelude.{ℕ, ◌-◌, ◌≤◌, List, All, Some, None}
 use Rattle.std.proofs.Math.Option.{Option, none, some, map}
 use Rattle.ledger.specs.Parts as ledger
 use Rattle.ledger.specs.Parts.{queued, in_flight, waiting}
@@ -23,5 +23,4 @@ IsInTime clock (in_flight f) = f.sent ≤ clock
 IsInTime clock (waiting since) = since ≤ clock
 
 abbrev pub NoneLate : (clock : ℕ) → List Request → Type 0
-NoneLate clock [] = Unit
-NoneLate clock (q ∷ qs) = IsInTime clock (state_of q.state) × NoneLate clock qs
+NoneLate clock rows = All (λ q. IsInTime clock (state_of q.state)) rows

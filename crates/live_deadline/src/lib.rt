@@ -9,7 +9,6 @@ ghost use Rattle.endpoint.specs.Malformed.{bare_of};
 ghost use Rattle.live_deadline.specs.Deadlines.{time_of, left_of, NoneLate, IsInTime};
 
 use endpoint::{RESPONSE_TIME, Requests, State};
-use std::cmp::min;
 
 // The milliseconds to the earliest deadline of the live requests, or none. For the host, which has refused a time later than the clock:
 // it is its malformed endpoint.
@@ -18,12 +17,10 @@ pub fn time_left(live: Requests, clock: u64) -> Option<u64>
     requires { NoneLate clock (rows_of live) }
     ensures { time_of result ≡ left_of clock (earliest (bare_of (rows_of live))) }
 {
-    let rows = live.in_use();
-    let mut best = None;
-    for q in rows {
-        best = sooner(best, left_in(q.state, clock));
-    }
-    best
+    live.in_use()
+        .iter()
+        .filter_map(|q| left_in(q.state, clock))
+        .min()
 }
 
 // The milliseconds to the deadline of a request in this state.
@@ -35,15 +32,5 @@ fn left_in(state: State, clock: u64) -> Option<u64>
         State::Queued => None,
         State::InFlight(frame) => Some(frame.left(clock)),
         State::Waiting(since) => Some(RESPONSE_TIME.saturating_sub(clock - since)),
-    }
-}
-
-// The shorter of two.
-fn sooner(a: Option<u64>, b: Option<u64>) -> Option<u64>
-    ensures { time_of result ≡ earlier (time_of a) (time_of b) }
-{
-    match (a, b) {
-        (Some(x), Some(y)) => Some(min(x, y)),
-        _ => a.or(b),
     }
 }

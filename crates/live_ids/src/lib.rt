@@ -1,8 +1,8 @@
 // The ID that a submit issues (document 01, **Submit**: "The ID is the first one not live, from the next request ID on").
 #![tactic(auto)]
 
-ghost use Rattle.std.specs.Prelude.{◌≡◌, ◌≤◌, length};
-ghost use Rattle.ledger.specs.Parts.{reserved_max};
+ghost use Rattle.std.specs.Prelude.{◌≡◌, length};
+ghost use Rattle.ledger.specs.Parts.{fresh};
 ghost use Rattle.ledger.specs.Submitting.{id_after, first_free};
 ghost use Rattle.endpoint.specs.Malformed.{bare_of};
 
@@ -10,11 +10,9 @@ use command::RequestId;
 use endpoint::{LAST_ID, Request};
 use malformed_rule::is_among;
 
-// The first ID that none of these rows has, from one on: no more are passed over than there are rows. Asks for an R that is no more
-// than 255, which the callers have seen to.
+// The first ID that none of these rows has, from one on: no more are passed over than there are rows.
 // Ruled out: an ID that is live, and 0 after 65535.
-pub fn first_free(rows: &[Request], reserved: u64, from: RequestId) -> RequestId
-    requires { reserved ≤ reserved_max }
+pub fn first_free(rows: &[Request], reserved: u8, from: RequestId) -> RequestId
     ensures { result.0 ≡ first_free (length rows.now) reserved (bare_of rows.now) from.0 }
 {
     let mut id = from;
@@ -27,15 +25,22 @@ pub fn first_free(rows: &[Request], reserved: u64, from: RequestId) -> RequestId
     id
 }
 
-// The ID after one: "after 65535 comes R + 1". For the host, which has refused an R over 255.
+// The ID after one: "after 65535 comes R + 1".
 // Ruled out: 0 after 65535, and a counter that stays at 65535.
 #[tactic(auto, unfolding(ledger::specs::Submitting::id_after))]
-pub fn id_after(reserved: u64, id: RequestId) -> RequestId
-    requires { reserved ≤ reserved_max }
+pub fn id_after(reserved: u8, id: RequestId) -> RequestId
     ensures { result.0 ≡ id_after reserved id.0 }
 {
     if id.0 == LAST_ID {
-        return RequestId(reserved as u16 + 1);
+        return first_id(reserved);
     }
     RequestId(id.0 + 1)
+}
+
+// The lowest ID that is issued, R + 1: the first one of a fresh endpoint.
+// Ruled out: R, which is kept for events, and 0 where R is 255.
+pub fn first_id(reserved: u8) -> RequestId
+    ensures { result.0 ≡ (fresh reserved).next_id }
+{
+    RequestId(u16::from(reserved) + 1)
 }

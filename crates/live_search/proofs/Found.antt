@@ -3,21 +3,27 @@ use Prim.Native.Nat.{ℕ, zero, suc, ◌+◌, ◌≤◌, ◌<◌}
 use mathlib.Core.Bool.{Bool, true, false, true≢false, not, cond as if}
 use mathlib.Core.List.{List, [], ◌∷◌}
 use mathlib.Core.Option.{Option, none, some}
-use mathlib.Core.Path.{◌≡◌, refl, sym}
+use mathlib.Core.Path.{◌≡◌, refl, sym, ap}
 use native.Mathlib.Omega.{arith}
 use lib.Dec.{ltb}
 use lib.ListN.{length, take, drop, get_or}
-use borrow.Author.Tests.{ltb-true, ltb-false}
+use borrow.Author.Tests.{ltb-true, ltb-false, lt-ltb, le-ltb}
 use Rattle.std.specs.Prelude.{Some, None}
+use Rattle.std.specs.Prelude as std
 use Rattle.std.specs.List.{position, position_or_len}
-use Rattle.std.proofs.lemmas.List.Sums.{passes_at_first}
+use Rattle.std.proofs.lemmas.List.Sums.{passes_at_first, position_or_len_is}
+use Rattle.link.specs.Frames as link
 use Rattle.ledger.specs.Parts as ledger
 use Rattle.ledger.specs.Parts.{Search, nobody, somebody, front_or, oldest}
-use Rattle.ledger.specs.Receiving.{provided}
-use Rattle.endpoint.specs.Endpoint.{request_of, room_at, requests_from}
-use Rattle.endpoint.specs.Places.{blank}
+use Rattle.ledger.specs.Receiving.{provided, flies, frame_in}
+use Rattle.link.specs.declared.frame.Frame.{Frame}
+use Rattle.endpoint.specs.declared.State.{State}
+use Rattle.endpoint.specs.declared.State.TheVariants.{InFlight}
+use Rattle.endpoint.proofs.Rows.{blank_row}
+use Rattle.endpoint.specs.Endpoint.{state_of, request_of, room_at, requests_from}
+use Rattle.endpoint.specs.Places.{blank, at, after}
 use Rattle.endpoint.specs.declared.Request.{Request}
-use Rattle.live_search.specs.Searching.{is_shown}
+use Rattle.live_search.specs.Searching.{is_shown, IsFlight}
 
 -- something is shown exactly where a test passes
 pub shown_provided : {A : Type 0} (passes : Bool) (what : A) → is_shown (provided passes what) ≡ passes
@@ -94,3 +100,50 @@ pub first_rows : (test : ledger.Request → Bool) (bare : Request → Bool) → 
 unfolding requests_from
 first_rows test bare same [] k store = refl
 first_rows test bare same (q ∷ qs) k store = rw (same q (room_at store k q.len), first_rows test bare same qs (suc k) store)
+
+-- what a search of the rows by a test says: no row passes, or this one does, and none before it. It is what `position` answers
+abbrev pub FirstRow : (Request → Bool) → std.Option ℕ → List Request → Type 0
+FirstRow test None rows = (k : ℕ) → k < length rows → test (get_or rows k blank_row) ≡ false
+FirstRow test (Some row) rows = (row < length rows) × (test (get_or rows row blank_row) ≡ true)
+    × ((k : ℕ) → k < row → test (get_or rows k blank_row) ≡ false)
+
+pub first_row : (test : Request → Bool) (found : std.Option ℕ) (rows : List Request) → FirstRow test found rows → found ≡ position test rows
+first_row test None rows first =
+    let end = position_or_len_is test rows (length rows) blank_row (omega arith) first (λ less. absurd (omega arith)) in
+    rw (end, le-ltb (length rows) (length rows) (omega arith))
+first_row test (Some row) rows first =
+    let less = first.0 in
+    let there = position_or_len_is test rows row blank_row (omega arith) first.2 (λ inside. first.1) in
+    rw (there, lt-ltb row (length rows) less)
+
+-- the same where the frame in flight is looked for: it is the ledger's oldest
+abbrev pub FirstFlight : std.Option (ℕ × Frame) → List Request → Type 0
+FirstFlight None rows = (k : ℕ) → k < length rows → frame_in (state_of (get_or rows k blank_row).state) ≡ none
+FirstFlight (Some found) rows = (found.0 < length rows) × ((get_or rows found.0 blank_row).state ≡ InFlight found.1)
+    × ((k : ℕ) → k < found.0 → frame_in (state_of (get_or rows k blank_row).state) ≡ none)
+
+none_flies : (rows : List Request) (n : ℕ) (store : List ℕ)
+    → ((k : ℕ) → k < length rows → frame_in (state_of (get_or rows k blank_row).state) ≡ none)
+    → oldest flies (requests_from n rows store) ≡ nobody
+unfolding oldest requests_from
+none_flies [] n store hidden-all = refl
+none_flies (q ∷ qs) n store hidden-all =
+    rw (hidden-all 0 (omega arith), none_flies qs (suc n) store (λ k less. hidden-all (suc k) (omega arith)))
+
+one_flies : (rows : List Request) (i n : ℕ) (store : List ℕ) {f : link.Frame} → i < length rows
+    → frame_in (state_of (get_or rows i blank_row).state) ≡ some f
+    → ((k : ℕ) → k < i → frame_in (state_of (get_or rows k blank_row).state) ≡ none)
+    → oldest flies (requests_from n rows store)
+    ≡ somebody (take i (requests_from n rows store)) (at i (requests_from n rows store)) f (after i (requests_from n rows store))
+unfolding oldest requests_from
+one_flies [] i n store less shown hidden-before = absurd (omega arith)
+one_flies (q ∷ qs) zero n store less shown hidden-before = rw shown
+one_flies (q ∷ qs) (suc i) n store less shown hidden-before =
+    rw (hidden-before 0 (omega arith), one_flies qs i (suc n) store (omega arith) shown (λ k before. hidden-before (suc k) (omega arith)))
+
+pub flight_law : (found : std.Option (ℕ × Frame)) (rows : List Request) → FirstFlight found rows → IsFlight found rows
+flight_law None rows first = record { finds = λ store. none_flies rows 0 store first; within = tt }
+flight_law (Some found) rows first = record {
+  finds = λ store. one_flies rows found.0 0 store first.0 (ap (λ (s : State). frame_in (state_of s)) first.1) first.2;
+  within = first.0;
+}

@@ -87,15 +87,3 @@ pub match_asks : (c : Command) (fields : Fields) (id : RequestId) → c.fields �
     → Asks (matched c) (λ q. matches (command_with (fields_of fields) id.0 0) (request_of q []))
 unfolding matches
 match_asks c fields id same-fields same_id q b = shown_provided {A = Unit {0}} (matches c (request_of q b)) tt ∙ rw (same-fields, same_id)
-
--- a request with a frame is in flight
-pub flying_state : (s : ledger.State) {f : Frame} → frame_in s ≡ some f → s ≡ in_flight f
-flying_state queued h = cc
-flying_state (in_flight g) h = cc
-flying_state (waiting since) h = cc
-
--- a state other than in flight shows no frame
-pub none_flying : (s : State) → OneOf (0 ∷ 2 ∷ []) (tag_of the_type s) → (f : Frame) → state_of s ≡ in_flight f → ⊥
-none_flying Queued other f is = let z : ◌≡◌ {A = ℕ} 0 1 = cc in omega arith
-none_flying (InFlight g) other f is = ⊎_elim (λ e. omega (arith, e)) (λ e. omega (arith, e)) other
-none_flying (Waiting since) other f is = let z : ◌≡◌ {A = ℕ} 0 1 = cc in omega arith

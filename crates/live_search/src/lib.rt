@@ -4,13 +4,14 @@
 
 ghost use Rattle.std.specs.Prelude.{◌≡◌, []};
 ghost use Rattle.command.specs.Promises.{fields_of};
-ghost use Rattle.ledger.specs.Receiving.{frame_in, acknowledged_in, matches};
+ghost use Rattle.ledger.specs.Receiving.{acknowledged_in, matches};
 ghost use Rattle.ledger.specs.Polling.{overdue_in, queued_in};
 ghost use Rattle.endpoint.specs.Endpoint.{state_of, request_of};
-ghost use Rattle.live_search.specs.Searching.{is_shown, command_with};
+ghost use Rattle.live_search.specs.Searching.{is_shown, command_with, IsFlight};
 
-use command::{Fields, RequestId};
+use command::Head;
 use endpoint::{RESPONSE_TIME, Request, State};
+use link::frame::Frame;
 use message::Seq;
 
 // Waiting, with clock minus since at least 3,000 ms.
@@ -21,12 +22,15 @@ pub fn is_overdue(state: State, clock: u64) -> bool
     matches!(state, State::Waiting(since) if RESPONSE_TIME <= clock.saturating_sub(since))
 }
 
-// In flight.
-// Ruled out: a queued request taken for one in flight, and a waiting one.
-pub fn is_flying(state: State) -> bool
-    ensures { result ≡ is_shown (frame_in (state_of state)) }
+// The oldest in flight: its row and its frame.
+// Ruled out: a queued request taken for one in flight, and a newer frame than the oldest.
+pub fn flying(rows: &[Request]) -> Option<(usize, Frame)>
+    ensures { IsFlight result rows.now }
 {
-    matches!(state, State::InFlight(_))
+    rows.iter().enumerate().find_map(|(row, q)| match q.state {
+        State::InFlight(frame) => Some((row, frame)),
+        _ => None,
+    })
 }
 
 // Queued.
@@ -48,8 +52,8 @@ pub fn is_acknowledged(state: State, seq: Seq) -> bool
 // In flight or waiting, with a response wanted, the same ID, and fields that the command's answer.
 // Ruled out: a request with the same ID and other fields, and one that was not sent.
 #[tactic(auto, unfolding(ledger::specs::Receiving::matches))]
-pub fn is_answered(q: &Request, fields: Fields, id: RequestId) -> bool
-    ensures { result ≡ matches (command_with (fields_of fields) id.0 0) (request_of q.now []) }
+pub fn is_answered(q: &Request, head: Head) -> bool
+    ensures { result ≡ matches (command_with (fields_of head.fields) head.id.0 0) (request_of q.now []) }
 {
-    !is_queued(q.state) && q.wanted && q.id == id && q.fields.is_answered_by(fields)
+    !is_queued(q.state) && q.wanted && q.id == head.id && q.fields.is_answered_by(head.fields)
 }

@@ -1,5 +1,5 @@
 -- No time of an endpoint that is not malformed is later than its clock, nor than a later reading.
-use Prim.Native.Nat.{ℕ, ◌≤◌}
+use Prim.Native.Nat.{ℕ, zero, suc, ◌≤◌}
 use mathlib.Core.Bool.{false}
 use mathlib.Core.List.{List, [], ◌∷◌}
 use mathlib.Core.Path.{◌≡◌}
@@ -23,9 +23,10 @@ module _ (now clock : ℕ) (later : now ≤ clock) where
 
   all_in_time : (rows : List Request) → some_of (λ q. is_late now q.state) (bare_of rows) ≡ false → NoneLate clock rows
   unfolding some_of
-  all_in_time [] h = tt
-  all_in_time (q ∷ qs) h =
-      let parts = neither (is_late now (state_of q.state)) _ h in (in_time_law (state_of q.state) parts.0, all_in_time qs parts.1)
+  all_in_time [] h i other less = absurd (omega arith)
+  all_in_time (q ∷ qs) h zero other less = in_time_law (state_of q.state) (neither (is_late now (state_of q.state)) _ h).0
+  all_in_time (q ∷ qs) h (suc i) other less =
+      all_in_time qs (neither (is_late now (state_of q.state)) _ h).1 i other (omega arith)
 
 pub none_late : (e : Endpoint) (clock : ℕ) → malformed e ≡ false → e.clock ≤ clock → NoneLate clock (rows_of e.live)
 none_late e clock h later = all_in_time e.clock clock later (rows_of e.live) (facts {e = e} h).times

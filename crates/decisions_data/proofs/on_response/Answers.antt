@@ -1,9 +1,8 @@
 -- `decisions_data::on_response` meets its contract: by the row that was found.
-use Rattle.std.proofs.Common.{rules, ◌≡◌, sym, ◌∙◌, length, tests}
+use Rattle.std.proofs.Common.{rules, tests, ◌≡◌, sym, ◌∙◌}
 use Rattle.std.specs.List.{position}
 use Rattle.std.proofs.lemmas.Iterator.{YieldsList-from_slice}
 use Rattle.std.proofs.lemmas.Iterator.Search.{position_from_yields_List}
-use Rattle.decisions_verdict.proofs.Words.{only_names}
 use Rattle.decisions_data.proofs.Commands.{answered, response_unmatched, response_ends}
 use Rattle.decisions_data.proofs.on_response.Goals.{After-position}
 use Rattle.decisions_data.proofs.on_response.Goals as goal
@@ -19,15 +18,14 @@ returns-in_default c =
     let a = c.args in
     let at = searched (goal.at.returns-in_default c).After-position in (
       λ l clock store payload same.
-          response_unmatched l clock store payload a.rows.now same a.seen a.it (sym at ∙ c.in_default.is) c.only.ensures,
-      only_names c.only.ensures (length a.rows.now),
+          rw c.says.ensures (response_unmatched l clock store payload a.rows.now same a.it (sym at ∙ c.in_default.is)),
+      search rules,
     )
 
 pub returns : goal.returns
 returns c =
     let a = c.args in
     let at = searched (goal.at.returns c).After-position in (
-      λ l clock store payload same.
-          response_ends l clock store payload a.rows.now same a.seen a.it c.in-Some.row (sym at ∙ c.in-Some.is),
+      λ l clock store payload same. response_ends l clock store payload a.rows.now same a.it c.in-Some.row (sym at ∙ c.in-Some.is),
       search rules,
     )

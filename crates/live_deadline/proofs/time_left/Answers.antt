@@ -1,28 +1,15 @@
--- `live_deadline::time_left` meets its contract. The loop's invariant: the shorter of the best time and of those in what is left is
--- the time that is looked for.
-use mathlib.Core.Path.{refl}
-use native.Mathlib.Omega.{arith}
-use Rattle.live_deadline.specs.Deadlines.{time_of}
-use Rattle.live_deadline.proofs.Turns.{times_in_time, times_on, times_end}
+-- `live_deadline::time_left` meets its contract: the closure gives the time to each deadline, and the shortest is that to the earliest.
+use Rattle.std.proofs.Common.{rules, ◌∙◌}
+use Rattle.std.proofs.lemmas.Iterator.{YieldsList-from_slice}
+use Rattle.std.proofs.lemmas.Iterator.Consumers.{YieldsList-from_filter_map, min_from_yields_List}
+use Rattle.live_deadline.proofs.Shortest.{own_time, as_in_code, as_time, shortest}
 use Rattle.live_deadline.proofs.time_left.Goals as goal
-
-pub loop-q-init : goal.loop-q-init
-loop-q-init c = rw c.in_use-rows.ensures (record { soonest = refl; none_late = c.requires })
-
-pub left_in-requires : goal.left_in-requires
-left_in-requires c =
-    let turn = c.loop-q in times_in_time c.in_use-rows.result.now c.args.clock turn.q-index (time_of turn.best) turn.invariant (omega arith)
-
-pub loop-q-preserved : goal.loop-q-preserved
-loop-q-preserved c =
-    let turn = c.loop-q in
-    times_on c.in_use-rows.result.now c.args.clock turn.q-index (time_of turn.best) turn.invariant (omega arith)
-    (time_of c.left_in.result)
-    c.left_in.ensures
-    (time_of c.sooner-best.result)
-    c.sooner-best.ensures
 
 pub returns : goal.returns
 returns c =
-    let turn = c.loop-q in
-    rw c.in_use-rows.ensures at (times_end c.in_use-rows.result.now c.args.clock turn.q-index (time_of turn.best) turn.invariant (omega arith))
+    let clock = c.args.clock in
+    let rows = c.in_use.result.now in
+    let times = min_from_yields_List c.filter_map.result c.min.result c.min.ensures.ran
+    (YieldsList-from_filter_map _ (own_time clock) (YieldsList-from_slice rows (cc)) c.filter_map.ensures.closure
+    (λ q r f called. (search rules, as_in_code r _ (search rules)))) in
+    rw (← c.in_use.ensures) (as_time c.min.result _ times ∙ shortest clock rows)

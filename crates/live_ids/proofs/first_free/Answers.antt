@@ -1,19 +1,11 @@
 -- `live_ids::first_free` meets its contract. The loop's invariant: the first free ID from here on, with so many still to pass over,
 -- is the one that is looked for.
-use Prim.Native.Nat.{ℕ, ◌+◌, ◌-◌}
-use mathlib.Core.Path.{◌≡◌, sym, ap, ◌∙◌}
+use Prim.Native.Nat.{◌+◌, ◌-◌}
+use mathlib.Core.Path.{◌≡◌, sym, ◌∙◌}
 use native.Mathlib.Omega.{arith}
 use lib.ListN.{length}
-use Rattle.ledger.specs.Submitting.{first_free}
-use Rattle.endpoint.specs.Malformed.{bare_of}
 use Rattle.live_ids.proofs.FirstFree.{free_here, free_on, free_end}
 use Rattle.live_ids.proofs.first_free.Goals as goal
-
-pub loop-init : goal.loop-init
-loop-init c =
-    let a = c.args in
-    let whole : length a.rows.now - 0 ≡ length a.rows.now = omega arith in
-    ap (λ (n : ℕ). first_free n a.reserved (bare_of a.rows.now) a.from.0) whole
 
 pub returns-then-not-is_among : goal.returns-then-not-is_among
 returns-then-not-is_among c =
