@@ -9,24 +9,22 @@ ghost use Rattle.line.specs.Receiving as line;
 ghost use Rattle.line.specs.Receiving.{held_max};
 ghost use Rattle.line.specs.Promises.{part_of};
 ghost use Rattle.command.specs.Payload.{max_data};
-ghost use Rattle.ledger.specs.Parts.{live_max};
 ghost use Rattle.ledger.specs.Receiving.{received_as};
 ghost use Rattle.endpoint.specs.Endpoint.{ledger_of, live_of};
 ghost use Rattle.live_changes.specs.Changing.{Names};
 ghost use Rattle.host_answers.specs.Promises.{receive_result};
-ghost use Rattle.host_answers.specs.Code.{Sound, Does, DecidesIn};
+ghost use Rattle.host_answers.specs.Code.{Does, DecidesIn};
 ghost use Rattle.decisions_verdict.specs.Verdicts.{bytes_for, act_of, Judges};
 
 use decisions::judge;
 use decisions_verdict::Verdict;
 use endpoint::{Endpoint, STORE_LENGTH};
-use host_answers::{Receipt, Received};
+use host_answers::{Accepted, Receipt, Received};
 use host_deliveries::{ending_of, hand_over};
 use line::payload::payload;
 use line::{Decision, HELD_MAX};
 use line_deciding::decide;
 use line_receiving::settle;
-use live_changes::carry_out;
 use message::Seq;
 
 // The line's decision on the held bytes, at the front of the store, and the new ones. The rooms stay.
@@ -50,7 +48,7 @@ pub fn deliver<'a>(
     buffer: &mut [u8],
     clock: u64,
 ) -> Verdict
-    requires { (e.live.count ≤ live_max) × (max_data ≤ length buffer.old)
+    requires { (max_data ≤ length buffer.old)
         × (length (part_of decision.answer decision.payload array.now bytes.now) ≤ max_len) }
     ensures { Judges result e kind seq.0 (part_of decision.answer decision.payload array.now bytes.now)
         clock
@@ -67,24 +65,22 @@ pub fn deliver<'a>(
 // live requests change.
 // Ruled out: *more* answered for an item, and held bytes that are lost.
 pub fn act(
-    e: Endpoint,
+    accepted: &Accepted,
     store: &mut [u8; STORE_LENGTH],
     decision: Decision,
     verdict: Verdict,
     replied: usize,
-    clock: u64,
 ) -> Received
-    requires { Sound e clock × (decision.start + decision.count ≤ held_max)
-        × Names verdict.change e.live.count }
-    ensures { (before new words payload reply buffer : List ℕ) → DecidesIn decision e.held new before store.old
-        → length words ≡ replied
-        → Does (received_as (ledger_of e before) (line.receive (take e.held before) new)
-        (act_of verdict words payload (live_of e.live before)) reply buffer clock)
+    requires { (decision.start + decision.count ≤ held_max) × Names verdict.change accepted.now.e.live.count }
+    ensures { (before new words payload reply buffer : List ℕ)
+        → DecidesIn decision accepted.now.e.held new before store.old → length words ≡ replied
+        → Does (received_as (ledger_of accepted.now.e before) (line.receive (take accepted.now.e.held before) new)
+        (act_of verdict words payload (live_of accepted.now.e.live before)) reply buffer accepted.now.clock)
         (receive_result result store.new (placed 0 words reply) (placed 0 (bytes_for verdict.word payload) buffer)) }
 {
     let held = settle_in(store, decision);
-    let ending = ending_of(e.live, verdict.change);
-    let live = carry_out(e.live, store, verdict.change);
+    let ending = ending_of(accepted.e.live, verdict.change);
+    let live = accepted.live().carry_out(store, verdict.change);
     let receipt = Receipt {
         item: decision.answer,
         word: verdict.word,
@@ -95,11 +91,11 @@ pub fn act(
     Received {
         answer: Ok(receipt),
         endpoint: Endpoint {
-            live,
-            clock,
+            live: live.requests,
+            clock: accepted.clock,
             seen: verdict.seen,
             held,
-            ..e
+            ..accepted.e
         },
     }
 }

@@ -9,6 +9,7 @@ use Rattle.ledger.specs.Answers.{Answer, refused, opened, submitted, received, p
 use Rattle.ledger.specs.Promises.{ending_of, word_of, number_of}
 use Rattle.ledger.specs.declared.Ending.{Ending}
 use Rattle.ledger.specs.declared.Refusal.{Refusal}
+use Rattle.host_answers.specs.declared.Answered.{Answered}
 use Rattle.host_answers.specs.declared.Receipt.{Receipt}
 use Rattle.host_answers.specs.declared.PollOutcome.{PollOutcome}
 use Rattle.host_answers.specs.declared.PollOutcome.TheVariants as outcome
@@ -25,6 +26,19 @@ ReceiveAnswer = Result Receipt Refusal
 
 abbrev pub PollAnswer : Type 0
 PollAnswer = Result PollOutcome Refusal
+
+-- the same beside the endpoint that is handed back
+abbrev pub Opened : Type 0
+Opened = Answered ⊤
+
+abbrev pub Submitted : Type 0
+Submitted = Answered RequestId
+
+abbrev pub Received : Type 0
+Received = Answered Receipt
+
+abbrev pub Polled : Type 0
+Polled = Answered PollOutcome
 
 -- open
 abbrev pub open_answer_of : OpenAnswer → Answer

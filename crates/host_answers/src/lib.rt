@@ -1,34 +1,51 @@
 // What the calls answer (document 01, "The ledger"; "Refusal numbers"), each beside the endpoint that is handed back.
 #![tactic(auto)]
 
+mod accepted; // what an accepted call works with
+
+ghost use Rattle.std.specs.Prelude.{◌≡◌, Err};
+
+pub use accepted::Accepted;
 use command::RequestId;
 use endpoint::Endpoint;
 use ledger::{Ending, Refusal, Word};
 use message::Item;
 
+// What a call answers, a value or the refusal, beside the endpoint that it hands back.
+#[derive(Drop)]
+pub struct Answered<T> {
+    pub answer: Result<T, Refusal>,
+    pub endpoint: Endpoint,
+}
+
+impl<T> Answered<T> {
+    // A refused call's: the endpoint as it was handed in.
+    // Ruled out: another endpoint than the one handed in, and another refusal.
+    pub fn refused(endpoint: Endpoint, refusal: Refusal) -> Self
+        ensures { result ≡ record { answer = Err refusal; endpoint = endpoint } }
+    {
+        Answered {
+            answer: Err(refusal),
+            endpoint,
+        }
+    }
+}
+
 // Open: that it is done, or the refusal.
 pub type OpenAnswer = Result<(), Refusal>;
 
-#[derive(Drop)]
-pub struct Opened {
-    pub answer: OpenAnswer,
-    pub endpoint: Endpoint,
-}
+pub type Opened = Answered<()>;
 
 // Submit: the request ID, or the refusal.
 pub type SubmitAnswer = Result<RequestId, Refusal>;
 
-#[derive(Drop)]
-pub struct Submitted {
-    pub answer: SubmitAnswer,
-    pub endpoint: Endpoint,
-}
+pub type Submitted = Answered<RequestId>;
 
 // What an accepted receive answers: the item, or `None` for *more*, the word, the bytes taken, the reply's length and the ending, if any.
 #[derive(Clone, Copy)]
 pub struct Receipt {
     pub item: Option<Item>,
-    pub word: Word,
+    pub word: Option<Word>,
     pub taken: usize,
     pub replied: usize,
     pub ending: Option<Ending>,
@@ -37,11 +54,7 @@ pub struct Receipt {
 // Receive: the receipt, or the refusal.
 pub type ReceiveAnswer = Result<Receipt, Refusal>;
 
-#[derive(Drop)]
-pub struct Received {
-    pub answer: ReceiveAnswer,
-    pub endpoint: Endpoint,
-}
+pub type Received = Answered<Receipt>;
 
 // What an accepted poll did: the length sent, an ending, or *quiet* with the milliseconds to the earliest deadline, if there is one.
 #[derive(Clone, Copy)]
@@ -54,8 +67,4 @@ pub enum PollOutcome {
 // Poll: what it did, or the refusal.
 pub type PollAnswer = Result<PollOutcome, Refusal>;
 
-#[derive(Drop)]
-pub struct Polled {
-    pub answer: PollAnswer,
-    pub endpoint: Endpoint,
-}
+pub type Polled = Answered<PollOutcome>;

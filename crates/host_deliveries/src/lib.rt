@@ -25,6 +25,7 @@ use message::{Item, Seq};
 // The reply to an item: "Damaged header or payload: reply NAK .. Forbidden: no reply.", "DATA_SEQ: reply ACK with its SEQ."
 // For `host_receiving`, which lends room for it: the table has refused a smaller reply buffer.
 // Ruled out: a NAK to a forbidden item, and a DATA_SEQ that is not acknowledged.
+#[tactic(auto, using(host_answers::proofs::Held::placed_none))]
 pub fn put_reply(reply: &mut [u8], item: Item) -> usize
     requires { total 0 ≤ length reply.old }
     ensures { Put result (reply_for (item_of item)) reply.old reply.new }
@@ -38,6 +39,7 @@ pub fn put_reply(reply: &mut [u8], item: Item) -> usize
 }
 
 // An ACK to DATA_SEQ, nothing to another message.
+#[tactic(auto, using(host_answers::proofs::Held::placed_none))]
 fn acknowledge(reply: &mut [u8], kind: u8, seq: Seq) -> usize
     requires { total 0 ≤ length reply.old }
     ensures { Put result (reply_to kind seq.0) reply.old reply.new }
@@ -51,18 +53,14 @@ fn acknowledge(reply: &mut [u8], kind: u8, seq: Seq) -> usize
 // "Events and responses put their data at the front of the lent data buffer; no other item touches it."
 // For `host_receiving`, which lends room for them: the table has refused a smaller data buffer.
 // Ruled out: data of an unmatched message in the buffer, and data of an event or a response that stay out of it.
-pub fn hand_over(buffer: &mut [u8], word: Word, body: &[u8])
+#[tactic(auto, using(host_answers::proofs::Held::placed_none))]
+pub fn hand_over(buffer: &mut [u8], word: Option<Word>, body: &[u8])
     requires { length (data_in body.now) ≤ length buffer.old }
     ensures { buffer.new ≡ placed 0 (bytes_for word body.now) buffer.old }
 {
     match word {
-        Word::Nothing => {}
-        Word::Stray => {}
-        Word::Repeat => {}
-        Word::NotCommand => {}
-        Word::Event(_) => put_data(buffer, body),
-        Word::Response(_) => put_data(buffer, body),
-        Word::Unmatched(_) => {}
+        Some(Word::Event(_) | Word::Response(_)) => put_data(buffer, body),
+        Some(Word::Stray | Word::Repeat | Word::NotCommand | Word::Unmatched(_)) | None => {}
     }
 }
 
@@ -76,16 +74,13 @@ fn put_data(buffer: &mut [u8], body: &[u8])
 
 // The ending that a change makes. For `host_receiving`, whose change names a row in use: a search has found it.
 // Ruled out: a request that leaves with no ending reported, and an ending with the ID of another.
-pub fn ending_of(live: Requests, change: Change) -> Option<Ending>
+pub fn ending_of(live: Requests, change: Option<Change>) -> Option<Ending>
     requires { (live.count ≤ live_max) × Names change live.count }
     ensures { (store : List ℕ) → ended_of result ≡ ending_by change (live_of live store) }
 {
-    match change {
-        Change::Nothing => None,
-        Change::Turn(_, _) => None,
-        Change::End(row, cause) => {
-            let id = live.rows[row].id;
-            Some(Ending { id, cause })
-        }
-    }
+    let Some(Change::End(row, cause)) = change else {
+        return None;
+    };
+    let id = live.rows[row].id;
+    Some(Ending { id, cause })
 }

@@ -9,6 +9,7 @@ use borrow.Author.Tests.{ltb-false}
 use Rattle.std.specs.Prelude.{Some, None, Ok}
 use Rattle.message.specs.Bytes.{total, max_len}
 use Rattle.message.specs.declared.Seq.{Seq}
+use Rattle.line.specs.Receiving.{held_max}
 use Rattle.link.specs.Frames as link
 use Rattle.link.specs.Frames.{first_sent}
 use Rattle.link.specs.Promises.{frame_of}
@@ -40,7 +41,8 @@ use Rattle.refinement.proofs.Sound.{held_of, fits_of}
 use Rattle.host_answers.specs.Answers.{poll_answer_of}
 use Rattle.host_answers.specs.Promises.{Result, poll_result}
 use Rattle.refusals.specs.Code.{with_endpoint}
-use Rattle.host_answers.specs.Code.{Sound, Does}
+use Rattle.host_answers.specs.Code.{Does}
+use Rattle.host_answers.specs.declared.accepted.Accepted.{Accepted}
 use Rattle.host_answers.specs.declared.PollOutcome.TheVariants as outcome
 use Rattle.host_answers.proofs.Held.{placed_none, held_same}
 use Rattle.refusals.proofs.Table.{passed, own_passed}
@@ -50,41 +52,53 @@ abbrev pub polled_endpoint : Endpoint → (live : Requests) (seq : Seq) (clock :
 polled_endpoint e live seq clock =
     record { live = live; reserved = e.reserved; clock = clock; seq = seq; next = e.next; seen = e.seen; held = e.held }
 
-module _ (e : Endpoint) (clock : ℕ) (store : List ℕ) (ready : Sound e clock) where
+module _ (accepted : Accepted) (store : List ℕ) where
+  abbrev e : Endpoint
+  e = accepted.e
+
+  abbrev clock : ℕ
+  clock = accepted.clock
+
+  few_held : e.held ≤ held_max
+  few_held = held_of e accepted.sound.sound
+
   -- a request ends
-  pub ended : (row : ℕ) (cause : Cause) (live : Requests) (exit output : List ℕ)
+  pub ended : (row : ℕ) (cause : Cause) (own live : Requests) (exit output : List ℕ) → own ≡ e.live
       → length e.live.rows ≡ live_max → row < e.live.count
-      → Becomes live (changed (End row cause) (live_of e.live store)) store exit
-      → Does (polled_as (ledger_of e store) (step_of (step.End row cause) (ledger_of e store) clock) output clock)
+      → Becomes live (changed (Some (End row cause)) (live_of own store)) store exit
+      → Does (polled_as (ledger_of e store) (step_of (Some (step.End row cause)) (ledger_of e store) clock) output clock)
       (poll_result (record {
         answer = Ok (outcome.Ended (record { id = (get_or e.live.rows row blank_row).id; cause = cause }));
         endpoint = polled_endpoint e live e.seq clock;
       }) exit output)
-  ended row cause live exit output three less becomes =
-      let held = held_same e.held store exit (held_of e ready.sound) becomes.holds in
-      let it = live_at e.live three (fits_of e ready.sound) store row less in
+  ended row cause own live exit output its three less becomes =
+      let held = held_same e.held store exit few_held becomes.holds in
+      let it = live_at e.live three (fits_of e accepted.sound.sound) store row less in
+      let lists = rw its at becomes.lists in
       record {
         answers = rw it;
         leaves = rw (placed_none output);
-        next = rw (becomes.lists, held);
+        next = rw (lists, held);
         fits = becomes.fits;
-        holds = held_of e ready.sound;
+        holds = few_held;
       }
 
   -- a frame goes out
-  pub sent : (row : ℕ) (frame : Frame) (next : Seq) (count : ℕ) (live : Requests) (exit output output_exit : List ℕ)
-      → Put count (frame_bytes (at row (live_of e.live store)) frame.seq.0) output output_exit
-      → Becomes live (changed (Turn row (InFlight frame)) (live_of e.live store)) store exit
+  pub sent : (row : ℕ) (frame : Frame) (next : Seq) (count : ℕ) (own live : Requests) (exit output output_exit : List ℕ) → own ≡ e.live
+      → Put count (frame_bytes (at row (live_of own store)) frame.seq.0) output output_exit
+      → Becomes live (changed (Some (Turn row (InFlight frame))) (live_of own store)) store exit
       → Does (polled_as (ledger_of e store) (sent_from (ledger_of e store) clock (frame_of frame) next.0 row) output clock)
       (poll_result (record { answer = Ok (outcome.Sent count); endpoint = polled_endpoint e live next clock }) exit output_exit)
-  sent row frame next count live exit output output_exit put becomes =
-      let held = held_same e.held store exit (held_of e ready.sound) becomes.holds in
+  sent row frame next count own live exit output output_exit its put becomes =
+      let held = held_same e.held store exit few_held becomes.holds in
+      let lists = rw its at becomes.lists in
+      let puts = rw its at put in
       record {
-        answers = rw put.counts;
-        leaves = rw put.leaves;
-        next = rw (becomes.lists, held);
+        answers = rw puts.counts;
+        leaves = rw puts.leaves;
+        next = rw (lists, held);
         fits = becomes.fits;
-        holds = held_of e ready.sound;
+        holds = few_held;
       }
 
   -- nothing is due
@@ -105,25 +119,25 @@ module _ (e : Endpoint) (clock : ℕ) (store : List ℕ) (ready : Sound e clock)
         answers = shown_quiet time ∙ ap (λ (t : Option ℕ). polled (quiet t)) (rests time left);
         leaves = rw (placed_none output);
         next = refl;
-        fits = fits_of e ready.sound;
-        holds = held_of e ready.sound;
+        fits = fits_of e accepted.sound.sound;
+        holds = few_held;
       }
 
 -- the step that was decided is what the ledger's poll does
-pub stepped : (e : Endpoint) (clock : ℕ) (store output : List ℕ) (s told : Step) (o : Result) → Steps s e.live clock → s ≡ told
+pub stepped : (e : Endpoint) (clock : ℕ) (store output : List ℕ) (s told : std.Option Step) (o : Result) → Steps s e.live clock → s ≡ told
     → Does (polled_as (ledger_of e store) (step_of told (ledger_of e store) clock) output clock) o
     → Does (poll (ledger_of e store) output clock) o
 stepped e clock store output s told o steps same does =
     rw (steps.acts (ledger_of e store) store refl, same) does
 
-pub reached : (s told : Step) (live : Requests) (clock : ℕ) → Steps s live clock → s ≡ told → Reaches told live.count
+pub reached : (s told : std.Option Step) (live : Requests) (clock : ℕ) → Steps s live clock → s ≡ told → Reaches told live.count
 reached s told live clock steps same = rw same at steps.reaches
 
 -- the first transmission
 pub first_sent_law : (e : Endpoint) (clock : ℕ) (store output : List ℕ) (row : ℕ) (f : link.Frame) (next : ℕ) (o : Result)
     → f ≡ first_sent e.seq.0 clock → next ≡ seq_after e.seq.0
     → Does (polled_as (ledger_of e store) (sent_from (ledger_of e store) clock f next row) output clock) o
-    → Does (polled_as (ledger_of e store) (step_of (step.First row) (ledger_of e store) clock) output clock) o
+    → Does (polled_as (ledger_of e store) (step_of (Some (step.First row)) (ledger_of e store) clock) output clock) o
 first_sent_law e clock store output row f next o first later does = rw (first, later) at does
 
 -- the table as poll tests it

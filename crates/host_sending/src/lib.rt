@@ -7,62 +7,69 @@ ghost use Rattle.message.specs.Bytes.{total, max_len};
 ghost use Rattle.link.specs.Promises.{frame_of};
 ghost use Rattle.ledger.specs.Polling.{frame_bytes, polled_as};
 ghost use Rattle.endpoint.specs.Endpoint.{ledger_of, live_of};
-ghost use Rattle.endpoint.specs.Places.{at, Fits};
+ghost use Rattle.endpoint.specs.Places.{at};
 ghost use Rattle.frames.specs.Promises.{Put};
 ghost use Rattle.host_answers.specs.Promises.{poll_result};
-ghost use Rattle.host_answers.specs.Code.{Sound, Does};
+ghost use Rattle.host_answers.specs.Code.{Does};
 ghost use Rattle.decisions_poll.specs.Steps.{sent_from};
 
-use endpoint::{Endpoint, Requests, STORE_LENGTH, State};
+use command::Head;
+use endpoint::{Endpoint, STORE_LENGTH, State};
 use frames::put_command;
-use host_answers::{PollOutcome, Polled};
+use host_answers::{Accepted, PollOutcome, Polled};
 use link::frame::Frame;
 use live_changes::rooms::place_of;
-use live_changes::{Change, carry_out};
+use live_changes::{Change, Live};
 use message::Seq;
 
 // The frame of the request in a row goes out, and is in flight.
 // Ruled out: an ending answered for a frame that was sent, and a count of transmissions that is not the frame's.
+// Stays: the clause `total max_len ≤ length output.old`, as for `frames::put_command`.
+// Stays: the clause `row < accepted.now.e.live.count`, as for `live_changes::Live::carry_out`.
 pub fn send(
-    e: Endpoint,
+    accepted: &Accepted,
     store: &mut [u8; STORE_LENGTH],
     output: &mut [u8],
     row: usize,
     frame: Frame,
     next: Seq,
-    clock: u64,
 ) -> Polled
-    requires { Sound e clock × (row < e.live.count) × (total max_len ≤ length output.old) }
-    ensures { Does (polled_as (ledger_of e store.old)
-        (sent_from (ledger_of e store.old) clock (frame_of frame) next.0 row) output.old clock)
-        (poll_result result store.new output.new) }
+    requires { (row < accepted.now.e.live.count) × (total max_len ≤ length output.old) }
+    ensures { Does (polled_as (ledger_of accepted.now.e store.old)
+        (sent_from (ledger_of accepted.now.e store.old) accepted.now.clock (frame_of frame) next.0 row) output.old
+        accepted.now.clock) (poll_result result store.new output.new) }
 {
-    let sent = put_frame(e.live, store, output, row, frame);
-    let live = carry_out(e.live, store, Change::Turn(row, State::InFlight(frame)));
+    let before = accepted.live();
+    let sent = put_frame(before, store, output, row, frame);
+    let live = before.carry_out(store, Some(Change::Turn(row, State::InFlight(frame))));
     Polled {
         answer: Ok(PollOutcome::Sent(sent)),
         endpoint: Endpoint {
-            live,
-            clock,
+            live: live.requests,
+            clock: accepted.clock,
             seq: next,
-            ..e
+            ..accepted.e
         },
     }
 }
 
 // Puts the frame of the request in a row into the output: its fields, ID and data, with the frame's SEQ.
 fn put_frame(
-    live: Requests,
+    live: Live,
     store: &[u8; STORE_LENGTH],
     output: &mut [u8],
     row: usize,
     frame: Frame,
 ) -> usize
-    requires { Fits live × (row < live.count) × (total max_len ≤ length output.old) }
-    ensures { Put result (frame_bytes (at row (live_of live store.now)) frame.seq.0) output.old
+    requires { (row < live.requests.count) × (total max_len ≤ length output.old) }
+    ensures { Put result (frame_bytes (at row (live_of live.requests store.now)) frame.seq.0) output.old
         output.new }
 {
-    let q = live.rows[row];
+    let q = live.requests.rows[row];
+    let head = Head {
+        fields: q.fields,
+        id: q.id,
+    };
     let at = place_of(row);
-    put_command(output, frame.seq, q.fields, q.id, &store[at..at + q.len])
+    put_command(output, frame.seq, head, &store[at..at + q.len])
 }

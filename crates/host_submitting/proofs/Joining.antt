@@ -23,7 +23,7 @@ use Rattle.endpoint.specs.declared.Endpoint.{Endpoint}
 use Rattle.endpoint.specs.declared.Request.{Request}
 use Rattle.endpoint.specs.declared.Requests.{Requests}
 use Rattle.endpoint.specs.declared.State.TheVariants.{Queued}
-use Rattle.endpoint.proofs.Rows.{length_rows}
+use Rattle.endpoint.proofs.Listed.{length_requests}
 use Rattle.live_changes.specs.Changing.{Becomes}
 use Rattle.live_changes.proofs.Becoming.{length_live}
 use Rattle.live_ids.proofs.FirstFree.{free_rows}
@@ -31,21 +31,23 @@ use Rattle.refinement.specs.Refusals.{refusal_of}
 use Rattle.refinement.proofs.Sound.{few_of, held_of, fits_of}
 use Rattle.host_answers.specs.Promises.{submit_result}
 use Rattle.refusals.specs.Code.{with_endpoint}
-use Rattle.host_answers.specs.Code.{Sound, Does}
+use Rattle.host_answers.specs.Code.{Does}
+use Rattle.host_answers.specs.declared.accepted.Accepted.{Accepted}
 use Rattle.std.specs.Prelude.{Ok}
 use Rattle.host_answers.proofs.Held.{held_same}
 use Rattle.refusals.proofs.Table.{first_holds, passed, own_passed}
 
-module _ (e : Endpoint) (fields : Fields) (wanted : Bool) (clock : ℕ) (store bytes : List ℕ) (three : length e.live.rows ≡ live_max)
-    (ready : Sound e clock) where
-  -- the ID that the code has found is the ledger's
-  found_id : (id : RequestId) → id.0 ≡ first_free e.live.count e.reserved (bare_of (rows_of e.live)) e.next.0
+module _ (accepted : Accepted) (fields : Fields) (wanted : Bool) (store bytes : List ℕ) where
+  abbrev e : Endpoint
+  e = accepted.e
+
+  -- the ID that the code has found among the rows is the ledger's
+  found_id : (id : RequestId) → id.0 ≡ first_free (length (rows_of e.live)) e.reserved (bare_of (rows_of e.live)) e.next.0
       → id.0 ≡ issued (ledger_of e store)
   found_id id found =
       found
-      ∙ sym (ap (λ (n : ℕ). first_free n e.reserved (live_of e.live store) e.next.0)
-      (length_live e.live three (fits_of e ready.sound) store)
-      ∙ free_rows e.live.count e.reserved (rows_of e.live) 0 store e.next.0)
+      ∙ sym (ap (λ (n : ℕ). first_free n e.reserved (live_of e.live store) e.next.0) (length_requests 0 (rows_of e.live) store)
+      ∙ free_rows (length (rows_of e.live)) e.reserved (rows_of e.live) 0 store e.next.0)
 
   -- the request that joins
   abbrev pub joining : RequestId → Request
@@ -56,37 +58,34 @@ module _ (e : Endpoint) (fields : Fields) (wanted : Bool) (clock : ℕ) (store b
   handed_back id next live = record {
     live = live;
     reserved = e.reserved;
-    clock = clock;
+    clock = accepted.clock;
     seq = e.seq;
     next = next;
     seen = e.seen;
     held = e.held;
   }
 
-  pub joined : (id next : RequestId) (live : Requests) (exit : List ℕ)
-      → id.0 ≡ first_free e.live.count e.reserved (bare_of (rows_of e.live)) e.next.0
-      → Becomes live (live_of e.live store ++ (request_of (joining id) bytes ∷ [])) store exit
-      → next.0 ≡ id_after e.reserved id.0
-      → Does (submit (ledger_of e store) (fields_of fields) bytes wanted clock)
+  -- by the rows, R and the live requests that the code works with
+  pub joined : (rows : List Request) (r : ℕ) (own : Requests) → rows ≡ rows_of e.live → r ≡ e.reserved → own ≡ e.live
+      → (id next : RequestId) (live : Requests) (exit : List ℕ)
+      → id.0 ≡ first_free (length rows) r (bare_of rows) e.next.0
+      → Becomes live (live_of own store ++ (request_of (joining id) bytes ∷ [])) store exit
+      → next.0 ≡ id_after r id.0
+      → Does (submit (ledger_of e store) (fields_of fields) bytes wanted accepted.clock)
       (submit_result (record { answer = Ok id; endpoint = handed_back id next live }) exit)
-  joined id next live exit found becomes later =
-      let same = found_id id found in
-      let held = held_same e.held store exit (held_of e ready.sound) becomes.holds in
+  joined rows r own in_use kept its id next live exit found becomes later =
+      let same = found_id id (rw (in_use, kept) at found) in
+      let few = held_of e accepted.sound.sound in
+      let held = held_same e.held store exit few becomes.holds in
+      let lists = rw its at becomes.lists in
+      let after = rw kept at later in
       record {
         answers = rw same;
         leaves = refl;
-        next = rw (becomes.lists, later, held, same);
+        next = rw (lists, after, held, same);
         fits = becomes.fits;
-        holds = held_of e ready.sound;
+        holds = few;
       }
-
--- the ID was looked for in the rows in use, which are as many as are counted
-pub free_in_use : (e : Endpoint) → length e.live.rows ≡ live_max → {clock : ℕ} → Sound e clock → (rows : List Request) → rows ≡ rows_of e.live
-    → (id : ℕ) → id ≡ first_free (length rows) e.reserved (bare_of rows) e.next.0
-    → id ≡ first_free e.live.count e.reserved (bare_of (rows_of e.live)) e.next.0
-free_in_use e three ready rows same id found =
-    let many : length rows ≡ e.live.count = ap length same ∙ length_rows e.live three (few_of e ready.sound) in
-    found ∙ rw (many, same)
 
 -- the table as submit tests it: where the endpoint is not malformed, as many are live as it counts
 pub submit_table : (e : Endpoint) (store : List ℕ) (fields : payload.Fields) (bytes : List ℕ) (wanted : Bool) (clock : ℕ)

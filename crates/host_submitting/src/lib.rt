@@ -9,12 +9,11 @@ ghost use Rattle.ledger.specs.Submitting as ledger;
 ghost use Rattle.endpoint.specs.Endpoint.{ledger_of};
 ghost use Rattle.host_answers.specs.Promises as promise;
 ghost use Rattle.host_answers.specs.Promises.{submit_result};
-ghost use Rattle.host_answers.specs.Code.{Sound, Does};
+ghost use Rattle.host_answers.specs.Code.{Does};
 
 use command::Fields;
 use endpoint::{Endpoint, Request, STORE_LENGTH, State};
-use host_answers::Submitted;
-use live_changes::joined;
+use host_answers::{Accepted, Submitted};
 use live_ids::{first_free, id_after};
 use refusals::check_submit;
 
@@ -30,28 +29,26 @@ pub fn submit_in(
     ensures { promise.Submitted result e fields «data».now wanted clock store.old store.new }
 {
     match check_submit(e, data.len(), clock) {
-        Err(refusal) => Submitted {
-            answer: Err(refusal),
-            endpoint: e,
-        },
-        Ok(()) => accept(e, store, fields, data, wanted, clock),
+        Err(refusal) => Submitted::refused(e, refusal),
+        Ok(()) => accept(&Accepted { e, clock }, store, fields, data, wanted),
     }
 }
 
 // A submit that the table does not refuse: "The request joins as queued."
 fn accept(
-    e: Endpoint,
+    accepted: &Accepted,
     store: &mut [u8; STORE_LENGTH],
     fields: Fields,
     data: &[u8],
     wanted: bool,
-    clock: u64,
 ) -> Submitted
-    requires { Sound e clock × (length «data».now ≤ max_data) × (e.live.count < live_max) }
-    ensures { Does (ledger.submit (ledger_of e store.old) (fields_of fields) «data».now wanted clock)
-        (submit_result result store.new) }
+    requires { (length «data».now ≤ max_data) × (accepted.now.e.live.count < live_max) }
+    ensures { Does (ledger.submit (ledger_of accepted.now.e store.old) (fields_of fields) «data».now wanted
+        accepted.now.clock) (submit_result result store.new) }
 {
-    let id = first_free(e.live.in_use(), e.reserved, e.next);
+    let e = accepted.e;
+    let reserved = accepted.reserved();
+    let id = first_free(e.live.in_use(), reserved, e.next);
     let it = Request {
         id,
         fields,
@@ -59,14 +56,13 @@ fn accept(
         len: data.len(),
         state: State::Queued,
     };
-    let live = joined(e.live, store, it, data);
-    let next = id_after(e.reserved, id);
+    let live = accepted.live().joined(store, it, data);
     Submitted {
         answer: Ok(id),
         endpoint: Endpoint {
-            live,
-            next,
-            clock,
+            live: live.requests,
+            next: id_after(reserved, id),
+            clock: accepted.clock,
             ..e
         },
     }

@@ -1,4 +1,5 @@
--- `host_deliveries::ending_of` meets its contract: by the change.
+-- `host_deliveries::ending_of` meets its contract: the request in the row that an ending names.
+use Rattle.std.proofs.Common.{rules}
 use Prim.Native.Nat.{ℕ, ◌≤◌, ◌<◌}
 use mathlib.Core.List.{List}
 use mathlib.Core.Path.{◌≡◌}
@@ -19,26 +20,5 @@ id_at live three few store i less =
     let count = length_rows live three few in
     rw (requests_at 0 i (rows_of live) store (omega arith), rows_at live three few i less)
 
--- the row that an ending names is in use, and so one of all
-pub offset_bounds-live-row : goal.offset_bounds-live-row
-offset_bounds-live-row c =
-    let named : c.in-End.row < c.args.live.count = rw c.in-End.is at c.requires.1 in
-    let row_named : c.in-End.row < live_max = let less = named in omega arith in
-    omega (arith, row_named)
-
-pub bounds-live-row : goal.bounds-live-row
-bounds-live-row c =
-    let named : c.in-End.row < c.args.live.count = rw c.in-End.is at c.requires.1 in
-    let row_named : c.in-End.row < live_max = let less = named in omega arith in
-    row_named
-
-pub returns-in-Nothing : goal.returns-in-Nothing
-returns-in-Nothing c store = rw c.in-Nothing.is
-
-pub returns-in-Turn : goal.returns-in-Turn
-returns-in-Turn c store = rw c.in-Turn.is
-
-pub returns-in-End : goal.returns-in-End
-returns-in-End c store =
-    let named : c.in-End.row < c.args.live.count = rw c.in-End.is at c.requires.1 in
-    rw (c.in-End.is, id_at c.args.live c.well_formed.0.1.1.0.1.0.1 c.requires.0 store c.in-End.row named)
+pub returns : goal.returns
+returns c store = let at-the-row = id_at c.args.live c.well_formed.0.1.1.0.1.0.1 c.requires.0 store in search rules

@@ -7,9 +7,6 @@ use Rattle.message.proofs.Buffer.{front}
 use Rattle.command.specs.Payload.{data_in}
 use Rattle.host_deliveries.proofs.put_data.Goals as goal
 
-pub copy-requires : goal.copy-requires
-copy-requires c = rw c.«data».ensures c.requires
-
 pub returns : goal.returns
 returns c =
     let a = c.args in
