@@ -110,6 +110,7 @@ impl Listing {
 
     // Hands the piece in, its untaken rest again, until *more*: a line for each item joins those that wait.
     // Ruled out: an item without its line, and lines of the pieces before that are forgotten.
+    #[tactic(auto, using(crate::proofs::Turn::taken_short, crate::proofs::Turn::short, crate::proofs::Turn::listed_more, crate::proofs::Turn::sent_none))]
     fn list_piece<W: Write>(&mut self, output: &mut W, piece: &[u8]) -> io::Result<()>
         ensures lists { OnOk result (standing self.new ≡ listed out_room (standing self.old) piece.now) }
         ensures written { OnOk result (Appends (W.contents output.old) (W.contents output.new)

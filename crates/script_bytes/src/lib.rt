@@ -11,6 +11,7 @@ use crate::faults::Fault;
 
 // Decodes pairs to the front of a lent buffer, and answers how many bytes they are. Public for `script`.
 // Ruled out: the digits of a byte exchanged, and a count past the buffer's end.
+#[tactic(auto, using(crate::proofs::Digits::bytes_end))]
 pub fn decode(digits: &[u8], bytes: &mut [u8]) -> Result<usize, Fault>
     ensures within { IfOk result (λ count. count ≤ length bytes.new) }
     ensures reads { IfOk result (λ count. take count bytes.new ≡ bytes_of digits.now) }

@@ -1,5 +1,4 @@
 -- `listing::list` meets its contract: what is written one after the other is the listing of all that was read.
-
 use Rattle.listing.proofs.Whole.{whole, on_ok}
 use Rattle.listing.proofs.list.Goals as goal
 

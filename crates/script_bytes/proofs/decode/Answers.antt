@@ -1,10 +1,8 @@
 -- `script_bytes::decode` meets its contract. The invariant: the bytes so far, with those of the digits left, are those of the whole.
-use mathlib.Core.List.{append-nil}
-use Prim.Native.Nat.{◌/◌}
-use mathlib.Core.Path.{◌≡◌, ap, ◌∙◌}
+use mathlib.Core.Path.{ap, ◌∙◌}
 use native.Mathlib.Omega.{arith}
 use lib.ListN.{length, length-append, length-set}
-use Rattle.script_bytes.proofs.Digits.{bytes_step, bytes_end}
+use Rattle.script_bytes.proofs.Digits.{bytes_step}
 use Rattle.script_bytes.proofs.decode.Goals as goal
 
 pub loop-i-preserved : goal.loop-i-preserved
@@ -15,10 +13,3 @@ loop-i-preserved c =
     let step = bytes_step loop.i-iterator.count _ _ c.in-Some.pair.now _ _ _ loop.bytes (omega arith) (omega arith) (omega arith) next.0.1.0
     c.in-Some-Some.ensures.value c.in-Some-Some.ensures'.value loop.invariant.3 in
     rw (next.2, next.1) (simp length-set (omega arith), next.0.0 ∙ loop.invariant.1, omega (arith, fewer), step)
-
-pub returns-clause-reads : goal.returns-clause-reads
-returns-clause-reads c =
-    let loop = c.loop-i in
-    let none = c.in-None.ensures.steps.0.1.0 in
-    let all : length c.args.digits.now / 2 ≡ loop.i-iterator.count = omega (arith, none, loop.invariant.2) in
-    rw all (rw (bytes_end _ none, append-nil) at loop.invariant.3)
