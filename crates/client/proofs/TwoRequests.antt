@@ -23,7 +23,7 @@ use Rattle.ledger.specs.Runs.{open_for, opened_by, reserved_for, Entry, past_fro
 use Rattle.claims.specs.ClockRule.{accepted_in, MayFollow, ClockRule}
 use Rattle.ledger.proofs.Cases.{by_test}
 use Rattle.host_answers.specs.Promises as promise
-use Rattle.host_answers.specs.declared.Opened as opening
+use Rattle.host_answers.specs.Answers as returned
 use Rattle.host_claims.specs.Claims.{Begins}
 use Rattle.client_parts.specs.Answers.{frame_for}
 use Rattle.client_parts.specs.Parts.{Asks, Hears, GivesUp}
@@ -89,7 +89,7 @@ module _ (k : Case) {acknowledgement : List ℕ} (h : Handed k acknowledgement) 
 -- the parts, each with its result and what it does
 module _ (reserved : ℕ) (store : List ℕ) (f : Fields) (bytes acknowledgement first second : List ℕ) (at : Readings)
     (output reply buffer frames : List ℕ)
-    (r0 : opening.Opened) (p0 : promise.Opened r0 reserved) (x0 : Begins r0 reserved)
+    (r0 : returned.Opened) (p0 : promise.Opened r0 reserved) (x0 : Begins r0 reserved)
     (r1 : Asked) (s1 o1 : List ℕ) (a1 : Asks r1 r0.endpoint store s1 f bytes output o1 at.asked)
     (r2 : Heard) (s2 y2 b2 : List ℕ) (a2 : Hears r2 r1.endpoint s1 s2 acknowledgement first second reply y2 buffer b2 at.heard)
     (r3 : Asked) (s3 o3 : List ℕ) (a3 : Asks r3 r2.endpoint s2 s3 f bytes frames o3 at.heard)

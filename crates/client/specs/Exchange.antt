@@ -12,7 +12,7 @@ use Rattle.ledger.specs.Calls.{Call, submit, receive, poll}
 use Rattle.ledger.specs.Runs.{open_for, reserved_for, Outcome, Entry, past_of}
 use Rattle.claims.specs.ClockRule.{ClockRule}
 use Rattle.host_answers.specs.Answers.{open_answer_of, submit_answer_of, receive_answer_of, poll_answer_of}
-use Rattle.host_answers.specs.declared.Opened as opening
+use Rattle.host_answers.specs.Answers as returned
 use Rattle.host_claims.specs.Claims.{Demand3}
 use Rattle.client_parts.specs.Answers.{frame_for, to_ack, to_first, to_second}
 use Rattle.client_parts.specs.declared.Readings.{Readings}
@@ -129,7 +129,7 @@ answers_of r =
 -- what it gets: open's answer, those of the rows, every lent buffer afterwards; its calls keep the rule for the clock, and demand 3 holds
 -- of them
 pub record Exchanged (k : Case) (r : Report) (store output reply buffer frames : List ℕ) : Type 0 where
-  pub begun : opening.Opened
+  pub begun : returned.Opened
   pub opened : open_answer_of r.opened ≡ (open_for k.reserved).answer
   pub answered : answers_of r ≡ map (λ (e : Entry). e.answer) (rows k)
   pub outputs : output ≡ placed 0 (frame_for k.fields (first_id k) k.bytes 0) k.output

@@ -23,8 +23,7 @@ use Rattle.ledger.specs.Calls.{submit, poll}
 use Rattle.ledger.specs.Refusals.{line, first_of}
 use Rattle.endpoint.specs.declared.Endpoint.{Endpoint}
 use Rattle.host_answers.specs.Promises.{submit_result, poll_result, Promise}
-use Rattle.host_answers.specs.declared.Submitted as submitting
-use Rattle.host_answers.specs.declared.Polled as polling
+use Rattle.host_answers.specs.Answers as returned
 use Rattle.host_claims.specs.Claims.{Extends}
 use Rattle.client_parts.specs.Answers.{frame_for}
 use Rattle.client_parts.specs.Parts.{Asks}
@@ -52,11 +51,11 @@ rests_1000 t = ap (λ (n : ℕ). polled (quiet (some n))) (omega arith)
 
 -- the calls, each with its result and its contract
 module _ (e : Endpoint) (store : List ℕ) (f : Fields) (bytes output : List ℕ) (t : ℕ)
-    (r1 : submitting.Submitted) (s1 : List ℕ) (p1 : Promise e store (submit f bytes true t) (submit_result r1 s1))
+    (r1 : returned.Submitted) (s1 : List ℕ) (p1 : Promise e store (submit f bytes true t) (submit_result r1 s1))
     (x1 : Extends e store (submit f bytes true t) (submit_result r1 s1))
-    (r2 : polling.Polled) (s2 o2 : List ℕ) (p2 : Promise r1.endpoint s1 (poll output t) (poll_result r2 s2 o2))
+    (r2 : returned.Polled) (s2 o2 : List ℕ) (p2 : Promise r1.endpoint s1 (poll output t) (poll_result r2 s2 o2))
     (x2 : Extends r1.endpoint s1 (poll output t) (poll_result r2 s2 o2))
-    (r3 : polling.Polled) (s3 o3 : List ℕ) (p3 : Promise r2.endpoint s2 (poll o2 t) (poll_result r3 s3 o3))
+    (r3 : returned.Polled) (s3 o3 : List ℕ) (p3 : Promise r2.endpoint s2 (poll o2 t) (poll_result r3 s3 o3))
     (x3 : Extends r2.endpoint s2 (poll o2 t) (poll_result r3 s3 o3)) where
   submit_passes : length bytes ≤ max_data → first_of (line 4 (ltb max_data (length bytes)) ∷ line 5 false ∷ []) ≡ none
   unfolding first_of

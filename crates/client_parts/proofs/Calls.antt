@@ -15,7 +15,7 @@ use Rattle.endpoint.specs.Endpoint.{ledger_of}
 use Rattle.endpoint.specs.declared.Endpoint.{Endpoint}
 use Rattle.refinement.proofs.Sound.{ledger_sound}
 use Rattle.host_answers.specs.Promises.{Result, Promise}
-use Rattle.host_answers.specs.declared.Opened as opening
+use Rattle.host_answers.specs.Answers as returned
 use Rattle.host_claims.specs.Chains.{Chain}
 use Rattle.host_claims.specs.Claims.{Extends}
 use Rattle.host_claims.proofs.Laws.{never_malformed}
@@ -28,7 +28,7 @@ pub record Comes (r : Result) (d : Done) : Type 0 where
   pub leaves : r.buffers ≡ d.buffers
   pub next : ledger_of r.endpoint r.store ≡ d.next
 
-module _ {given : ℕ} {begun : opening.Opened} {calls : List Call} {outcomes : List Outcome} {e : Endpoint} {store : List ℕ}
+module _ {given : ℕ} {begun : returned.Opened} {calls : List Call} {outcomes : List Outcome} {e : Endpoint} {store : List ℕ}
     (chain : Chain given begun calls outcomes e store) where
   -- a call that the table does not refuse
   module _ {l : Ledger} (stands : ledger_of e store ≡ l) (c : Call) (r : Result) (promised : Promise e store c r)

@@ -13,8 +13,8 @@ use Rattle.command.specs.Payload.{max_data}
 use Rattle.ledger.specs.Calls.{receive}
 use Rattle.ledger.specs.Refusals.{line, first_of}
 use Rattle.endpoint.specs.declared.Endpoint.{Endpoint}
+use Rattle.host_answers.specs.Answers.{Received}
 use Rattle.host_answers.specs.Promises.{receive_result, Promise}
-use Rattle.host_answers.specs.declared.Received.{Received}
 use Rattle.host_claims.specs.Claims.{Extends}
 use Rattle.client_parts.specs.Parts.{Hears}
 use Rattle.client_parts.proofs.Calls.{comes, with_call}

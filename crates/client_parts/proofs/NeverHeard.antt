@@ -7,8 +7,8 @@ use Rattle.link.specs.Frames.{first_sent, may_go_again, sent_again}
 use Rattle.link.proofs.Laws.{due_late, again_not_due}
 use Rattle.ledger.specs.Calls.{poll}
 use Rattle.endpoint.specs.declared.Endpoint.{Endpoint}
+use Rattle.host_answers.specs.Answers.{Polled}
 use Rattle.host_answers.specs.Promises.{poll_result, Promise}
-use Rattle.host_answers.specs.declared.Polled.{Polled}
 use Rattle.host_claims.specs.Claims.{Extends}
 use Rattle.client_parts.specs.Parts.{GivesUp}
 use Rattle.client_parts.specs.declared.Readings.{Readings}

@@ -17,7 +17,7 @@ use Rattle.ledger.specs.Runs.{Outcome}
 use Rattle.endpoint.specs.Endpoint.{ledger_of}
 use Rattle.endpoint.specs.declared.Endpoint.{Endpoint}
 use Rattle.host_answers.specs.Answers.{submit_answer_of, receive_answer_of, poll_answer_of}
-use Rattle.host_answers.specs.declared.Opened as opening
+use Rattle.host_answers.specs.Answers as returned
 use Rattle.host_claims.specs.Chains.{Chain}
 use Rattle.host_claims.specs.Claims.{Demand3}
 use Rattle.client_parts.specs.Answers.{frame_for, to_ack, to_first, to_second}
@@ -46,7 +46,7 @@ abbrev pub and : {A : Type 0} → List A → A → List A
 and xs x = xs ++ (x ∷ [])
 
 -- a request that finds nobody live is sent at once
-pub record AskedAs (given : ℕ) (begun : opening.Opened) (calls : List Call) (outcomes : List Outcome) (r : Asked) (store : List ℕ)
+pub record AskedAs (given : ℕ) (begun : returned.Opened) (calls : List Call) (outcomes : List Outcome) (r : Asked) (store : List ℕ)
     (f : Fields) (bytes output exit : List ℕ) (clock reserved seq id : ℕ) (seen : Seen) : Type 0 where
   pub named : submit_answer_of r.id ≡ submitted id
   pub sends : poll_answer_of r.sent ≡ polled (sent (length (frame_for f id bytes seq)))
@@ -63,13 +63,13 @@ pub record AskedAs (given : ℕ) (begun : opening.Opened) (calls : List Call) (o
 
 abbrev pub Asks : Asked → Endpoint → (store store_exit : List ℕ) → Fields → (bytes output exit : List ℕ) (clock : ℕ) → Type 0
 Asks r e store store_exit f bytes output exit clock =
-    (given : ℕ) (begun : opening.Opened) (calls : List Call) (outcomes : List Outcome) (reserved before seq id : ℕ) (seen : Seen)
+    (given : ℕ) (begun : returned.Opened) (calls : List Call) (outcomes : List Outcome) (reserved before seq id : ℕ) (seen : Seen)
     → Chain given begun calls outcomes e store
     → ledger_of e store ≡ idle reserved before seq id seen → before ≤ clock → length bytes ≤ max_data → total max_len ≤ length output
     → AskedAs given begun calls outcomes r store_exit f bytes output exit clock reserved seq id seen
 
 -- a request in flight is acknowledged, and its response arrives in two pieces
-pub record HeardAs (given : ℕ) (begun : opening.Opened) (calls : List Call) (outcomes : List Outcome) (r : Heard) (store : List ℕ)
+pub record HeardAs (given : ℕ) (begun : returned.Opened) (calls : List Call) (outcomes : List Outcome) (r : Heard) (store : List ℕ)
     (acknowledgement first second reply reply_exit buffer buffer_exit : List ℕ) (clock reserved seq next id : ℕ) (frame : Frame) (back : Fields)
     (back_seq : ℕ) (answered : List ℕ) : Type 0 where
   pub acks : receive_answer_of r.acknowledged ≡ received (to_ack frame.seq)
@@ -90,7 +90,7 @@ pub record HeardAs (given : ℕ) (begun : opening.Opened) (calls : List Call) (o
 abbrev pub Hears : Heard → Endpoint → (store store_exit acknowledgement first second reply reply_exit buffer buffer_exit : List ℕ)
     → (clock : ℕ) → Type 0
 Hears r e store store_exit acknowledgement first second reply reply_exit buffer buffer_exit clock =
-    (given : ℕ) (begun : opening.Opened) (calls : List Call) (outcomes : List Outcome) (reserved before seq next id : ℕ) (f : Fields)
+    (given : ℕ) (begun : returned.Opened) (calls : List Call) (outcomes : List Outcome) (reserved before seq next id : ℕ) (f : Fields)
     (bytes : List ℕ) (frame : Frame) (back : Fields) (back_seq : ℕ) (answered : List ℕ)
     → Chain given begun calls outcomes e store
     → ledger_of e store ≡ with_live reserved before seq next none_seen (asking id f bytes (in_flight frame) ∷ []) []
@@ -101,7 +101,7 @@ Hears r e store store_exit acknowledgement first second reply reply_exit buffer 
     frame back back_seq answered
 
 -- a request whose frame has gone out once, and of which nothing is heard, is given up
-pub record GivenUpAs (given : ℕ) (begun : opening.Opened) (calls : List Call) (outcomes : List Outcome) (r : GivenUp) (store : List ℕ)
+pub record GivenUpAs (given : ℕ) (begun : returned.Opened) (calls : List Call) (outcomes : List Outcome) (r : GivenUp) (store : List ℕ)
     (output exit : List ℕ) (at : Readings) (id size : ℕ) : Type 0 where
   pub second : poll_answer_of r.second ≡ polled (sent size)
   pub rests : poll_answer_of r.rests ≡ polled (quiet (some resend_time))
@@ -121,7 +121,7 @@ pub record GivenUpAs (given : ℕ) (begun : opening.Opened) (calls : List Call) 
 
 abbrev pub GivesUp : GivenUp → Endpoint → (store store_exit output exit : List ℕ) → Readings → Type 0
 GivesUp r e store store_exit output exit at =
-    (given : ℕ) (begun : opening.Opened) (calls : List Call) (outcomes : List Outcome) (reserved before seq next id sequence : ℕ) (seen : Seen)
+    (given : ℕ) (begun : returned.Opened) (calls : List Call) (outcomes : List Outcome) (reserved before seq next id sequence : ℕ) (seen : Seen)
     (f : Fields) (bytes : List ℕ)
     → Chain given begun calls outcomes e store
     → ledger_of e store

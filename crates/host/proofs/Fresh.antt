@@ -24,7 +24,7 @@ use Rattle.refusals.proofs.Table.{first_holds, first_fails, no_line}
 -- an endpoint with the numbers of a fresh one
 module _ (e : Endpoint) (r : ℕ) (none-live : e.live.count ≡ 0) (same : e.reserved ≡ r) (start : e.clock ≡ 0)
     (first : e.seq.0 ≡ first_seq) (next : e.next.0 ≡ suc r) (seen : seen_of e.seen ≡ none_seen) (empty : e.held ≡ 0) where
-  pub fresh_ledger : (store : List ℕ) → ledger_of e store ≡ fresh r
+  fresh_ledger : (store : List ℕ) → ledger_of e store ≡ fresh r
   unfolding requests_from
   fresh_ledger store = rw (none-live, same, start, first, next, seen, empty)
 
@@ -32,10 +32,12 @@ module _ (e : Endpoint) (r : ℕ) (none-live : e.live.count ≡ 0) (same : e.res
   unfolding too_long
   fits = record { few = omega arith; short = rw none-live }
 
-  pub fresh_sound : r ≤ reserved_max → malformed e ≡ false
-  fresh_sound small =
-      endpoint_sound e [] fits (omega arith)
-      (ap (ledger.malformed live_max) (fresh_ledger []) ∙ not_malformed live_max (fresh r) (fresh_fine live_max r small))
+  pub made : r ≤ reserved_max → ((store : List ℕ) → ledger_of e store ≡ fresh r) × (malformed e ≡ false)
+  made small = (
+    fresh_ledger,
+    endpoint_sound e [] fits (omega arith)
+        (ap (ledger.malformed live_max) (fresh_ledger []) ∙ not_malformed live_max (fresh r) (fresh_fine live_max r small)),
+  )
 
 -- what open comes to
 pub open_refused : (given : ℕ) → reserved_max < given

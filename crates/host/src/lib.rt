@@ -30,14 +30,11 @@ pub fn open(reserved: u64) -> Opened
     ensures list { Begins result reserved }
 {
     if RESERVED_MAX < reserved {
-        return Opened {
-            answer: Err(Refusal::ReservedOver),
-            endpoint: fresh(0),
-        };
+        return Opened::refused(fresh(0), Refusal::ReservedOver);
     }
     Opened {
         answer: Ok(()),
-        endpoint: fresh(reserved),
+        endpoint: fresh(reserved as u8),
     }
 }
 

@@ -50,7 +50,7 @@ module _ (accepted : Accepted) (d : Decision) (v : Verdict) (ending : Option End
   e = accepted.e
 
   pub acted : own ≡ e.live → DecidesIn d e.held new entry middle → length words ≡ replied → Settled d held middle settled
-      → ((store : List ℕ) → ended_of ending ≡ ending_by v.change (live_of e.live store))
+      → ((store : List ℕ) → ended_of ending ≡ ending_by v.change (live_of own store))
       → Becomes live (changed v.change (live_of own settled)) settled exit
       → Does (received_as (ledger_of e entry) (line.receive (take e.held entry) new)
       (act_of v words payload (live_of e.live entry)) reply buffer accepted.clock)
@@ -62,8 +62,9 @@ module _ (accepted : Accepted) (d : Decision) (v : Verdict) (ending : Option End
       held_same held settled exit few becomes.holds ∙ settles.stands ∙ ap (λ (x : line.Received). x.held) decided.decides.gives in
       let rooms : live_of own settled ≡ live_of e.live entry = rw its (same_live entry settled (settles.rooms ∙ decided.rooms) e.live) in
       let lists : live_of live exit ≡ changed v.change (live_of e.live entry) = rw rooms at becomes.lists in
+      let its_ending : ended_of ending ≡ ending_by v.change (live_of e.live entry) = rw its at (ended entry) in
       record {
-        answers = rw (← decided.decides.gives, ← ended entry, size);
+        answers = rw (← decided.decides.gives, ← its_ending, size);
         leaves = refl;
         next = rw (front, lists);
         fits = becomes.fits;

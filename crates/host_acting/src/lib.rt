@@ -79,8 +79,9 @@ pub fn act(
         (receive_result result store.new (placed 0 words reply) (placed 0 (bytes_for verdict.word payload) buffer)) }
 {
     let held = settle_in(store, decision);
-    let ending = ending_of(accepted.e.live, verdict.change);
-    let live = accepted.live().carry_out(store, verdict.change);
+    let before = accepted.live();
+    let ending = ending_of(before.requests, verdict.change);
+    let live = before.carry_out(store, verdict.change);
     let receipt = Receipt {
         item: decision.answer,
         word: verdict.word,

@@ -13,11 +13,11 @@ use Rattle.endpoint.specs.Endpoint.{rows_of}
 use Rattle.endpoint.specs.declared.Endpoint.{Endpoint}
 use Rattle.record_audit.specs.Records.{ids_of}
 use Rattle.record_audit.proofs.Laws.{sound_endpoint}
-use Rattle.host_answers.specs.declared.Opened as opening
+use Rattle.host_answers.specs.Answers as returned
 use Rattle.host_claims.specs.Chains.{Chain}
 use Rattle.host_claims.proofs.Laws.{demand_3, never_malformed}
 
-module _ {given : ℕ} {first : opening.Opened} {calls : List Call} {outcomes : List Outcome} {e : Endpoint} {store : List ℕ}
+module _ {given : ℕ} {first : returned.Opened} {calls : List Call} {outcomes : List Outcome} {e : Endpoint} {store : List ℕ}
     (chain : Chain given first calls outcomes e store) where
   -- the endpoint keeps the R that open was given, or 0 where open refused it
   keeps_reserved : e.reserved ≡ reserved_for given

@@ -11,12 +11,12 @@ use Rattle.claims.proofs.Laws.{outcome_claims_3, ends_in_time_3}
 use Rattle.endpoint.specs.declared.Endpoint.{Endpoint}
 use Rattle.host_answers.specs.Promises.{Result, Promise}
 use Rattle.host_answers.specs.Promises as promise
-use Rattle.host_answers.specs.declared.Opened as opening
+use Rattle.host_answers.specs.Answers as returned
 use Rattle.host_claims.specs.Chains.{Chain, opens, goes_on}
 use Rattle.host_claims.specs.Claims.{Demand3, Extends, Begins}
 use Rattle.host_claims.proofs.Refining.{refines, past_of_law, opened_as}
 
-pub demand_3 : {given : ℕ} {first : opening.Opened} {calls : List Call} {outcomes : List Outcome} {e : Endpoint} {store : List ℕ}
+pub demand_3 : {given : ℕ} {first : returned.Opened} {calls : List Call} {outcomes : List Outcome} {e : Endpoint} {store : List ℕ}
     → Chain given first calls outcomes e store → Demand3 given first calls outcomes e store
 demand_3 {given} {first} {calls} {outcomes} {e} {store} chain =
     let known = refines chain in
@@ -34,5 +34,5 @@ pub extends : (e : Endpoint) (store : List ℕ) (c : Call) (r : Result) → Prom
 extends e store c r promised given first calls outcomes chain =
     let longer = goes_on chain c r promised in record { list = longer; meets = demand_3 longer }
 
-pub begins : (r : opening.Opened) (given : ℕ) → promise.Opened r given → Begins r given
+pub begins : (r : returned.Opened) (given : ℕ) → promise.Opened r given → Begins r given
 begins r given promised store = let list = opens store promised in record { list = list; meets = demand_3 list }

@@ -12,11 +12,11 @@ use Rattle.claims.proofs.Hearing as hearing
 use Rattle.claims.proofs.Laws as ledger
 use Rattle.claims.proofs.Runs.{run_agrees}
 use Rattle.endpoint.specs.declared.Endpoint.{Endpoint}
-use Rattle.host_answers.specs.declared.Opened as opening
+use Rattle.host_answers.specs.Answers as returned
 use Rattle.host_claims.specs.Chains.{Chain}
 use Rattle.host_claims.proofs.Refining.{refines, past_of_law}
 
-module _ {given : ℕ} {first : opening.Opened} {calls : List Call} {outcomes : List Outcome} {e : Endpoint} {store : List ℕ}
+module _ {given : ℕ} {first : returned.Opened} {calls : List Call} {outcomes : List Outcome} {e : Endpoint} {store : List ℕ}
     (chain : Chain given first calls outcomes e store) where
   -- what has happened, and what is held, as a run of the ledger shows them
   same_past : (run live_max (start given) calls).past ≡ past_of calls outcomes
@@ -34,7 +34,7 @@ module _ {given : ℕ} {first : opening.Opened} {calls : List Call} {outcomes : 
       rw (same_past, same_held) at
       (ledger.heard_all live_max given calls (subst (λ (past : List Entry). last_receive past ≡ more) (sym same_past) last))
 
-pub alike : {given given' : ℕ} {first first' : opening.Opened} {calls calls' : List Call} {outcomes outcomes' : List Outcome}
+pub alike : {given given' : ℕ} {first first' : returned.Opened} {calls calls' : List Call} {outcomes outcomes' : List Outcome}
     {e e' : Endpoint} {store store' : List ℕ} → (chain : Chain given first calls outcomes e store)
     (chain' : Chain given' first' calls' outcomes' e' store')
     → bytes_taken (past_of calls outcomes) ≡ bytes_taken (past_of calls' outcomes')

@@ -29,8 +29,7 @@ use Rattle.refinement.specs.Refusals.{refusal_of}
 use Rattle.host_answers.specs.Answers.{open_answer_of}
 use Rattle.host_answers.specs.Promises.{Result, Refuses, Promise}
 use Rattle.host_answers.specs.Promises as promise
-use Rattle.host_answers.specs.declared.Opened as opening
-use Rattle.host_answers.specs.declared.Received as receiving
+use Rattle.host_answers.specs.Answers as returned
 use Rattle.host_claims.specs.Chains.{Chain}
 use Rattle.host_claims.specs.Claims.{Demand3, Extends, Begins, Receipts}
 use Rattle.host_claims.proofs.Refining.{refines, steps}
@@ -57,18 +56,18 @@ pub refused_numbers : (e : Endpoint) (store : List ℕ) (c : Call) (o : Result) 
 refused_numbers e store c o promised n table = rw (refused_where e store c o promised n table).answers
 
 -- open is refused where its line of the table says so
-pub open_answers : (r : opening.Opened) (given : ℕ) → promise.Opened r given → open_answer_of r.answer ≡ (open_for given).answer
+pub open_answers : (r : returned.Opened) (given : ℕ) → promise.Opened r given → open_answer_of r.answer ≡ (open_for given).answer
 open_answers r given opened = opened.answers
 
 -- Demand 2, for one accepted receive: the item, the bytes taken and the bytes held then are those of the line
-pub receives_items : (r : receiving.Received) (e : Endpoint) (bytes reply buffer : List ℕ) (clock : ℕ)
+pub receives_items : (r : returned.Received) (e : Endpoint) (bytes reply buffer : List ℕ) (clock : ℕ)
     (store exit reply_exit buffer_exit : List ℕ) → promise.Received r e bytes reply buffer clock store exit reply_exit buffer_exit
     → Receipts r e bytes reply buffer clock store exit
 receives_items r e bytes reply buffer clock store exit reply_exit buffer_exit promised =
     received.receives_items r e bytes reply buffer clock store exit reply_exit buffer_exit promised
 
 -- Demand 3: for every R, every list of calls from open on, and every endpoint and store that the calls hand on
-pub demand_3 : {given : ℕ} {first : opening.Opened} {calls : List Call} {outcomes : List Outcome} {e : Endpoint} {store : List ℕ}
+pub demand_3 : {given : ℕ} {first : returned.Opened} {calls : List Call} {outcomes : List Outcome} {e : Endpoint} {store : List ℕ}
     → Chain given first calls outcomes e store → Demand3 given first calls outcomes e store
 demand_3 chain = every.demand_3 chain
 
@@ -77,7 +76,7 @@ demand_3 chain = every.demand_3 chain
 pub extends : (e : Endpoint) (store : List ℕ) (c : Call) (r : Result) → Promise e store c r → Extends e store c r
 extends e store c r promised = every.extends e store c r promised
 
-pub begins : (r : opening.Opened) (given : ℕ) → promise.Opened r given → Begins r given
+pub begins : (r : returned.Opened) (given : ℕ) → promise.Opened r given → Begins r given
 begins r given promised = every.begins r given promised
 
 -- and there are such lists: one of eleven calls for R = 38, with every endpoint, store, answer and buffer written out, keeps the clock
@@ -87,7 +86,7 @@ witness = sample.witnessed
 
 -- Demand 2 for every list of calls: the items of its accepted receives, with what is held in the end, are those of the bytes taken,
 -- joined, whatever submits, polls, refused calls and cuts stand between
-module _ {given : ℕ} {first : opening.Opened} {calls : List Call} {outcomes : List Outcome} {e : Endpoint} {store : List ℕ}
+module _ {given : ℕ} {first : returned.Opened} {calls : List Call} {outcomes : List Outcome} {e : Endpoint} {store : List ℕ}
     (chain : Chain given first calls outcomes e store) where
   pub heard_as_joined : HeardAs (past_of calls outcomes) (take e.held store)
   heard_as_joined = heard.as_joined chain
@@ -97,7 +96,7 @@ module _ {given : ℕ} {first : opening.Opened} {calls : List Call} {outcomes : 
   heard_all last = heard.all_answered chain last
 
 -- two lists that take the same bytes, and whose last receive answered *more*, have the same items and hold the same bytes
-pub same_bytes_same_items : {given given' : ℕ} {first first' : opening.Opened} {calls calls' : List Call} {outcomes outcomes' : List Outcome}
+pub same_bytes_same_items : {given given' : ℕ} {first first' : returned.Opened} {calls calls' : List Call} {outcomes outcomes' : List Outcome}
     {e e' : Endpoint} {store store' : List ℕ} → Chain given first calls outcomes e store → Chain given' first' calls' outcomes' e' store'
     → bytes_taken (past_of calls outcomes) ≡ bytes_taken (past_of calls' outcomes')
     → last_receive (past_of calls outcomes) ≡ more → last_receive (past_of calls' outcomes') ≡ more
@@ -105,7 +104,7 @@ pub same_bytes_same_items : {given given' : ℕ} {first first' : opening.Opened}
 same_bytes_same_items chain chain' same last last' = heard.alike chain chain' same last last'
 
 -- the parts of demand 3, for any list
-module _ {given : ℕ} {first : opening.Opened} {calls : List Call} {outcomes : List Outcome} {e : Endpoint} {store : List ℕ}
+module _ {given : ℕ} {first : returned.Opened} {calls : List Call} {outcomes : List Outcome} {e : Endpoint} {store : List ℕ}
     (chain : Chain given first calls outcomes e store) where
   -- "An ending or a polled frame belongs to the last request before it whose ID it names"
   pub all_belong : AllBelong (past_of calls outcomes)

@@ -8,9 +8,9 @@ use Rattle.ledger.specs.Calls.{receive}
 use Rattle.ledger.specs.Runs.{accepts}
 use Rattle.endpoint.specs.Endpoint.{ledger_of}
 use Rattle.endpoint.specs.declared.Endpoint.{Endpoint}
+use Rattle.host_answers.specs.Answers.{Received}
 use Rattle.host_answers.specs.Promises.{Meets, receive_result}
 use Rattle.host_answers.specs.Promises as promise
-use Rattle.host_answers.specs.declared.Received.{Received}
 use Rattle.host_claims.specs.Claims.{Gives, Receipts}
 
 gives : (r : Received) (e : Endpoint) (bytes reply buffer : List ℕ) (clock : ℕ) (store exit reply_exit buffer_exit : List ℕ)

@@ -15,9 +15,8 @@ use Rattle.endpoint.specs.Malformed.{malformed}
 use Rattle.endpoint.specs.declared.Endpoint.{Endpoint}
 use Rattle.refinement.specs.Refusals.{refusal_of}
 use Rattle.refinement.proofs.Sound.{same_refusal}
-use Rattle.host_answers.specs.Answers.{open_answer_of}
+use Rattle.host_answers.specs.Answers.{open_answer_of, Opened}
 use Rattle.host_answers.specs.Promises.{Result, ByTable, Promise}
-use Rattle.host_answers.specs.declared.Opened.{Opened}
 use Rattle.host_claims.specs.Chains.{outcome_from, Chain, opens, goes_on}
 
 -- what a promise comes to, where the endpoint is not malformed: the ledger's step, whether it refuses or not

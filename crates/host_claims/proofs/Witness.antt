@@ -35,7 +35,6 @@ use Rattle.ledger.specs.Examples as example
 use Rattle.ledger.specs.Examples.{Row, zeros, front, submits, polls, receives, case_3, case_6, ack_item, ends_by}
 use Rattle.ledger.specs.declared.Cause.TheVariants.{NoResponse}
 use Rattle.ledger.specs.declared.Refusal.TheVariants.{DataOver}
-use Rattle.ledger.specs.declared.Word.TheVariants as word
 use Rattle.claims.specs.Trace.{last_asked, endings, frames, requests}
 use Rattle.claims.specs.ClockRule.{ClockRule}
 use Rattle.claims.proofs.ClockTest.{may_follow, keeps_clock_rule, test_rule}
@@ -48,7 +47,7 @@ use Rattle.endpoint.specs.declared.Endpoint.{Endpoint}
 use Rattle.endpoint.proofs.Rows.{blank_row}
 use Rattle.host_answers.specs.Promises.{Result, Promise, submit_result, receive_result, poll_result}
 use Rattle.host_answers.specs.Promises as promise
-use Rattle.host_answers.specs.declared.Opened as opening
+use Rattle.host_answers.specs.Answers as returned
 use Rattle.host_answers.specs.Answers.{SubmitAnswer, PollAnswer}
 use Rattle.host_answers.specs.declared.PollOutcome.TheVariants as outcome
 use Rattle.host_claims.specs.Chains.{Chain, outcome_from}
@@ -125,7 +124,7 @@ abbrev over : (clock : ℕ) → Endpoint
 over clock = endpoint nobody clock 1 40 0
 
 -- what open hands back, and the endpoint in the end
-abbrev pub first : opening.Opened
+abbrev pub first : returned.Opened
 first = record { answer = Ok tt; endpoint = fresh }
 
 abbrev pub last : Endpoint
@@ -225,7 +224,7 @@ rests_later store = record { promised = record { answers = refl; leaves = refl; 
 abbrev hearing : Option Item → (taken : ℕ) → Endpoint → (store : List ℕ) → Result
 hearing item taken e store =
     receive_result (record {
-      answer = Ok (record { item = item; word = word.Nothing; taken = taken; replied = 0; ending = None });
+      answer = Ok (record { item = item; word = None; taken = taken; replied = 0; ending = None });
       endpoint = e;
     }) store (zeros (total 0)) (zeros max_data)
 

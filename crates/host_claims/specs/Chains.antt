@@ -5,7 +5,7 @@ use Rattle.ledger.specs.Calls.{Call}
 use Rattle.ledger.specs.Runs.{Outcome}
 use Rattle.endpoint.specs.declared.Endpoint.{Endpoint}
 use Rattle.host_answers.specs.Promises.{Result, Promise, Opened}
-use Rattle.host_answers.specs.declared.Opened as opening
+use Rattle.host_answers.specs.Answers as returned
 
 -- what the caller of a call sees of its result: its outcome
 abbrev pub outcome_from : Result → Outcome
@@ -15,7 +15,7 @@ outcome_from r = record { answer = r.answer; buffers = r.buffers }
 -- afterwards. A call is related to the next by the promise that its own `ensures` cites (`host::submit`, `receive` and `poll` cite
 -- `Promise` of their arguments); the store that is first lent holds any bytes, and each call brings "its own input bytes and buffers,
 -- of any length and contents, and any clock"
-pub data Chain (given : ℕ) (first : opening.Opened) : (calls : List Call) → List Outcome → Endpoint → (store : List ℕ) → Type 0 where
+pub data Chain (given : ℕ) (first : returned.Opened) : (calls : List Call) → List Outcome → Endpoint → (store : List ℕ) → Type 0 where
   opens : (store : List ℕ) → Opened first given → Chain given first [] [] first.endpoint store
   goes_on : {calls : List Call} {outcomes : List Outcome} {e : Endpoint} {store : List ℕ}
       → Chain given first calls outcomes e store

@@ -13,13 +13,12 @@ use Rattle.endpoint.specs.declared.Endpoint.{Endpoint}
 use Rattle.refinement.specs.Refusals.{refusal_of}
 use Rattle.host_answers.specs.Answers.{open_answer_of, receive_answer_of}
 use Rattle.host_answers.specs.Promises.{Result}
-use Rattle.host_answers.specs.declared.Opened as opening
-use Rattle.host_answers.specs.declared.Received as receiving
+use Rattle.host_answers.specs.Answers as returned
 use Rattle.host_claims.specs.Chains.{Chain, outcome_from}
 
 -- demand 3, of what open was given and handed back, the calls after it and their outcomes, each in their order, and of the endpoint and
 -- the store afterwards
-pub record Demand3 (given : ℕ) (first : opening.Opened) (calls : List Call) (outcomes : List Outcome) (e : Endpoint)
+pub record Demand3 (given : ℕ) (first : returned.Opened) (calls : List Call) (outcomes : List Outcome) (e : Endpoint)
     (store : List ℕ) : Type 0 where
   -- open's answer is the ledger's
   pub opened : open_answer_of first.answer ≡ (open_for given).answer
@@ -37,31 +36,31 @@ pub record Demand3 (given : ℕ) (first : opening.Opened) (calls : List Call) (o
   pub in_time : Bounded 12000 (past_of calls outcomes)
 
 -- a call that was made after such a list: the list with the call and its own outcome is one, and meets demand 3
-pub record Extended (given : ℕ) (first : opening.Opened) (calls : List Call) (outcomes : List Outcome) (c : Call) (r : Result) : Type 0 where
+pub record Extended (given : ℕ) (first : returned.Opened) (calls : List Call) (outcomes : List Outcome) (c : Call) (r : Result) : Type 0 where
   pub list : Chain given first (calls ++ (c ∷ [])) (outcomes ++ (outcome_from r ∷ [])) r.endpoint r.store
   pub meets : Demand3 given first (calls ++ (c ∷ [])) (outcomes ++ (outcome_from r ∷ [])) r.endpoint r.store
 
 -- what each call's contract says beside its promise: it extends every list of calls that ends in the endpoint and the store handed in
 abbrev pub Extends : Endpoint → (store : List ℕ) → Call → Result → Type 0
 Extends e store c r =
-    (given : ℕ) (first : opening.Opened) (calls : List Call) (outcomes : List Outcome) → Chain given first calls outcomes e store
+    (given : ℕ) (first : returned.Opened) (calls : List Call) (outcomes : List Outcome) → Chain given first calls outcomes e store
     → Extended given first calls outcomes c r
 
 -- and open's: it begins one, whatever the store holds
-pub record Begun (given : ℕ) (first : opening.Opened) (store : List ℕ) : Type 0 where
+pub record Begun (given : ℕ) (first : returned.Opened) (store : List ℕ) : Type 0 where
   pub list : Chain given first [] [] first.endpoint store
   pub meets : Demand3 given first [] [] first.endpoint store
 
-abbrev pub Begins : opening.Opened → (given : ℕ) → Type 0
+abbrev pub Begins : returned.Opened → (given : ℕ) → Type 0
 Begins r given = (store : List ℕ) → Begun given r store
 
 -- demand 2 for a receive that the table does not refuse: item, bytes taken and bytes held then, as the line gives them
-pub record Gives (r : receiving.Received) (e : Endpoint) (bytes store exit : List ℕ) : Type 0 where
+pub record Gives (r : returned.Received) (e : Endpoint) (bytes store exit : List ℕ) : Type 0 where
   pub receipt : Receipt
   pub answers : receive_answer_of r.answer ≡ received receipt
   pub item : receipt.item ≡ (line.receive (take e.held store) bytes).answer
   pub taken : receipt.taken ≡ (line.receive (take e.held store) bytes).taken
   pub held : take r.endpoint.held exit ≡ (line.receive (take e.held store) bytes).held
 
-abbrev pub Receipts : receiving.Received → Endpoint → (bytes reply buffer : List ℕ) (clock : ℕ) (store exit : List ℕ) → Type 0
+abbrev pub Receipts : returned.Received → Endpoint → (bytes reply buffer : List ℕ) (clock : ℕ) (store exit : List ℕ) → Type 0
 Receipts r e bytes reply buffer clock store exit = refusal_of e store (receive bytes reply buffer clock) ≡ none → Gives r e bytes store exit

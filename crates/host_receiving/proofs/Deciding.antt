@@ -25,16 +25,14 @@ use Rattle.line.proofs.Laws.{message_short}
 use Rattle.ledger.specs.Answers.{Done}
 use Rattle.ledger.specs.Receiving as ledger
 use Rattle.ledger.specs.Receiving.{act, received_as}
-use Rattle.ledger.specs.declared.Word.TheVariants as word
 use Rattle.endpoint.specs.Endpoint.{ledger_of, live_of}
 use Rattle.endpoint.specs.declared.Endpoint.{Endpoint}
-use Rattle.live_changes.specs.declared.Change.TheVariants as change
 use Rattle.frames.specs.Promises.{Put}
 use Rattle.decisions_verdict.specs.Verdicts.{bytes_for, act_of, reply_to, Judges}
 use Rattle.decisions_verdict.specs.declared.Verdict.{Verdict}
 use Rattle.host_answers.specs.Promises.{receive_result}
 use Rattle.host_answers.specs.Code.{Does, reply_for, DecidesIn}
-use Rattle.host_answers.specs.declared.Received.{Received}
+use Rattle.host_answers.specs.Answers.{Received}
 use Rattle.host_answers.proofs.Held.{placed_none}
 
 -- the payload of what the line answers is no longer than a message may be
@@ -57,8 +55,8 @@ short_payload d held new entry exit decided =
 
 -- a verdict that is a word and no more
 pub record NoMore (v : Verdict) (e : Endpoint) : Type 0 where
-  pub word : v.word ≡ word.Nothing
-  pub change : v.change ≡ change.Nothing
+  pub word : v.word ≡ None
+  pub change : v.change ≡ None
   pub seen : v.seen ≡ e.seen
 
 -- what an item that is no message does

@@ -8,14 +8,13 @@ ghost use Rattle.ledger.specs.Receiving as ledger;
 ghost use Rattle.endpoint.specs.Endpoint.{ledger_of};
 ghost use Rattle.host_answers.specs.Promises as promise;
 ghost use Rattle.host_answers.specs.Promises.{receive_result};
-ghost use Rattle.host_answers.specs.Code.{Sound, Does};
+ghost use Rattle.host_answers.specs.Code.{Does};
 
 use decisions_verdict::only;
 use endpoint::{Endpoint, STORE_LENGTH};
 use host_acting::{act, decide_in, deliver};
-use host_answers::Received;
+use host_answers::{Accepted, Received};
 use host_deliveries::put_reply;
-use ledger::Word;
 use line::HELD_MAX;
 use message::Item;
 use refusals::check_receive;
@@ -33,35 +32,33 @@ pub fn receive_in(
         store.new reply.new buffer.new }
 {
     match check_receive(e, reply.len(), buffer.len(), clock) {
-        Err(refusal) => Received {
-            answer: Err(refusal),
-            endpoint: e,
-        },
-        Ok(()) => accept(e, store, bytes, reply, buffer, clock),
+        Err(refusal) => Received::refused(e, refusal),
+        Ok(()) => accept(&Accepted { e, clock }, store, bytes, reply, buffer),
     }
 }
 
 // A receive that the table does not refuse.
+// Stays: the clause `total 0 ≤ length reply.old`, as for `frames::put_ack`.
 fn accept(
-    e: Endpoint,
+    accepted: &Accepted,
     store: &mut [u8; STORE_LENGTH],
     bytes: &[u8],
     reply: &mut [u8],
     buffer: &mut [u8],
-    clock: u64,
 ) -> Received
-    requires { Sound e clock × (total 0 ≤ length reply.old) × (max_data ≤ length buffer.old) }
-    ensures { Does (ledger.receive (ledger_of e store.old) bytes.now reply.old
-        buffer.old clock) (receive_result result store.new reply.new buffer.new) }
+    requires { (total 0 ≤ length reply.old) × (max_data ≤ length buffer.old) }
+    ensures { Does (ledger.receive (ledger_of accepted.now.e store.old) bytes.now reply.old
+        buffer.old accepted.now.clock) (receive_result result store.new reply.new buffer.new) }
 {
+    let e = accepted.e;
     let decision = decide_in(store, e.held, bytes);
     let Some(item) = decision.answer else {
-        return act(e, store, decision, only(Word::Nothing, e.seen), 0, clock);
+        return act(accepted, store, decision, only(None, e.seen), 0);
     };
     let replied = put_reply(reply, item);
     let Item::Message { kind, seq, len: _ } = item else {
-        let plain = only(Word::Nothing, e.seen);
-        return act(e, store, decision, plain, replied, clock);
+        let plain = only(None, e.seen);
+        return act(accepted, store, decision, plain, replied);
     };
     let verdict = deliver(
         e,
@@ -71,7 +68,7 @@ fn accept(
         kind,
         seq,
         buffer,
-        clock,
+        accepted.clock,
     );
-    act(e, store, decision, verdict, replied, clock)
+    act(accepted, store, decision, verdict, replied)
 }

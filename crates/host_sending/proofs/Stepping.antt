@@ -64,19 +64,19 @@ module _ (accepted : Accepted) (store : List ℕ) where
 
   -- a request ends
   pub ended : (row : ℕ) (cause : Cause) (own live : Requests) (exit output : List ℕ) → own ≡ e.live
-      → length e.live.rows ≡ live_max → row < e.live.count
+      → length own.rows ≡ live_max → row < e.live.count
       → Becomes live (changed (Some (End row cause)) (live_of own store)) store exit
       → Does (polled_as (ledger_of e store) (step_of (Some (step.End row cause)) (ledger_of e store) clock) output clock)
       (poll_result (record {
-        answer = Ok (outcome.Ended (record { id = (get_or e.live.rows row blank_row).id; cause = cause }));
+        answer = Ok (outcome.Ended (record { id = (get_or own.rows row blank_row).id; cause = cause }));
         endpoint = polled_endpoint e live e.seq clock;
       }) exit output)
   ended row cause own live exit output its three less becomes =
       let held = held_same e.held store exit few_held becomes.holds in
-      let it = live_at e.live three (fits_of e accepted.sound.sound) store row less in
+      let it = live_at e.live (rw its at three) (fits_of e accepted.sound.sound) store row less in
       let lists = rw its at becomes.lists in
       record {
-        answers = rw it;
+        answers = rw (its, it);
         leaves = rw (placed_none output);
         next = rw (lists, held);
         fits = becomes.fits;
@@ -122,23 +122,6 @@ module _ (accepted : Accepted) (store : List ℕ) where
         fits = fits_of e accepted.sound.sound;
         holds = few_held;
       }
-
--- the step that was decided is what the ledger's poll does
-pub stepped : (e : Endpoint) (clock : ℕ) (store output : List ℕ) (s told : std.Option Step) (o : Result) → Steps s e.live clock → s ≡ told
-    → Does (polled_as (ledger_of e store) (step_of told (ledger_of e store) clock) output clock) o
-    → Does (poll (ledger_of e store) output clock) o
-stepped e clock store output s told o steps same does =
-    rw (steps.acts (ledger_of e store) store refl, same) does
-
-pub reached : (s told : std.Option Step) (live : Requests) (clock : ℕ) → Steps s live clock → s ≡ told → Reaches told live.count
-reached s told live clock steps same = rw same at steps.reaches
-
--- the first transmission
-pub first_sent_law : (e : Endpoint) (clock : ℕ) (store output : List ℕ) (row : ℕ) (f : link.Frame) (next : ℕ) (o : Result)
-    → f ≡ first_sent e.seq.0 clock → next ≡ seq_after e.seq.0
-    → Does (polled_as (ledger_of e store) (sent_from (ledger_of e store) clock f next row) output clock) o
-    → Does (polled_as (ledger_of e store) (step_of (Some (step.First row)) (ledger_of e store) clock) output clock) o
-first_sent_law e clock store output row f next o first later does = rw (first, later) at does
 
 -- the table as poll tests it
 pub long_enough : (e : Endpoint) (clock size : ℕ) → first_of (with_endpoint e clock (line 6 (ltb size (total max_len)) ∷ [])) ≡ none

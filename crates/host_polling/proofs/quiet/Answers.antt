@@ -3,11 +3,10 @@ use Rattle.refinement.proofs.Times.{none_late}
 use Rattle.host_sending.proofs.Stepping.{quiet_law}
 use Rattle.host_polling.proofs.quiet.Goals as goal
 
-pub time_left-requires : goal.time_left-requires
-time_left-requires c =
-    none_late c.args.e c.args.clock c.requires.sound c.requires.forward
+pub time_left-time-requires : goal.time_left-time-requires
+time_left-time-requires c =
+    let it = c.args.accepted.now in none_late it.e it.clock it.sound.sound it.sound.forward
 
 pub returns : goal.returns
-returns c =
-    let a = c.args in
-    λ store output. quiet_law a.e a.clock store c.requires c.time_left.result output c.time_left.ensures
+returns c store output =
+    quiet_law c.args.accepted.now store c.time_left-time.result output c.time_left-time.ensures

@@ -2,50 +2,29 @@
 use mathlib.Core.Path.{refl, ap, ◌∙◌}
 use native.Mathlib.Omega.{arith}
 use Rattle.std.specs.Prelude.{Some}
-use Rattle.refinement.proofs.Sound.{few_of, held_of}
+use Rattle.refinement.proofs.Sound.{held_of}
 use Rattle.host_receiving.proofs.Deciding.{short_payload, on_more, on_plain, on_message_law}
 use borrow.Enum.Refused.{opened}
 use Rattle.host_receiving.proofs.accept.Goals as goal
 
 pub decide_in-decision-requires : goal.decide_in-decision-requires
-decide_in-decision-requires c = held_of c.args.e c.requires.0.sound
-
-pub act-requires : goal.act-requires
-act-requires c = (
-  c.requires.0,
-  c.decide_in-decision.ensures.decides.within,
-  rw c.only.ensures.1 tt,
-)
-
-pub act-requires-in_default-item : goal.act-requires-in_default-item
-act-requires-in_default-item c = (
-  c.requires.0,
-  c.decide_in-decision.ensures.decides.within,
-  rw c.only-plain.ensures.1 tt,
-)
+decide_in-decision-requires c = let it = c.args.accepted.now in held_of it.e it.sound.sound
 
 pub deliver-verdict-requires : goal.deliver-verdict-requires
 deliver-verdict-requires c =
     let d = c.decide_in-decision in
     let a = c.args in (
-      few_of a.e c.requires.0.sound,
       omega arith,
-      short_payload d.result a.e.held a.bytes.now a.store.now d.new.store d.ensures,
+      short_payload d.result a.accepted.now.e.held a.bytes.now a.store.now d.new.store d.ensures,
     )
-
-pub act-requires-2 : goal.act-requires-2
-act-requires-2 c = (
-  c.requires.0,
-  c.decide_in-decision.ensures.decides.within,
-  c.deliver-verdict.ensures.0.names,
-)
 
 pub returns-in_default : goal.returns-in_default
 returns-in_default c =
     let v = c.only in
     let d = c.decide_in-decision in
     let a = c.args in
-    on_more a.e d.result v.result a.clock 0 c.act.result a.bytes.now a.store.now d.new.store
+    let e = a.accepted.now.e in
+    on_more e d.result v.result a.accepted.now.clock 0 c.act.result a.bytes.now a.store.now d.new.store
     c.act.new.store a.reply.now a.buffer.now d.ensures c.act.ensures refl c.in_default.is
     (record { word = v.ensures.0; change = v.ensures.1; seen = v.ensures.2 })
 
@@ -55,7 +34,8 @@ returns-in_default-item c =
     let put = c.put_reply-replied in
     let d = c.decide_in-decision in
     let a = c.args in
-    on_plain a.e d.result v.result a.clock put.result c.act-in_default-item.result a.bytes.now a.store.now
+    let e = a.accepted.now.e in
+    on_plain e d.result v.result a.accepted.now.clock put.result c.act-in_default-item.result a.bytes.now a.store.now
     d.new.store c.act-in_default-item.new.store a.reply.now a.buffer.now d.ensures c.act-in_default-item.ensures c.in-Some.item
     put.new.reply c.in-Some.is (opened c.in_default-item.in_default-item-own.keys2)
     (record { word = v.ensures.0; change = v.ensures.1; seen = v.ensures.2 }) put.ensures
@@ -66,7 +46,8 @@ returns c =
     let put = c.put_reply-replied in
     let d = c.decide_in-decision in
     let a = c.args in
-    on_message_law a.e d.result v.result a.clock put.result c.act-2.result a.bytes.now a.store.now
+    let e = a.accepted.now.e in
+    on_message_law e d.result v.result a.accepted.now.clock put.result c.act-2.result a.bytes.now a.store.now
     d.new.store c.act-2.new.store a.reply.now a.buffer.now d.ensures c.act-2.ensures c.in-Message.kind
     c.in-Message.len c.in-Message.seq put.new.reply v.new.buffer (c.in-Some.is ∙ ap Some c.in-Message.is)
     (rw c.in-Message.is at put.ensures) v.ensures.0 v.ensures.1

@@ -29,18 +29,13 @@ roomy e clock x y h =
     (ltb-false x (total 0) both.0, ltb-false y max_data both.1)
 
 -- the table lets the call through
+pub invariant_of-accept : goal.invariant_of-accept
+invariant_of-accept c =
+    let a = c.args in record { sound = sound_of a.e a.clock _ (sym c.in-Ok.ensures) }
+
 pub accept-requires : goal.accept-requires
 accept-requires c =
-    let a = c.args in
-    let table = sym c.in-Ok.ensures in
-    let room = roomy a.e a.clock (length a.reply.now) (length a.buffer.now) table in
-    (sound_of a.e a.clock _ table, room.0, room.1)
-
-pub returns-in-Err : goal.returns-in-Err
-returns-in-Err c =
-    let a = c.args in
-    refuses a.e a.store.now (receive a.bytes.now a.reply.now a.buffer.now a.clock) _ _ (sym c.in-Err.ensures)
-    (record { answers = refl; leaves = refl; keeps = refl; stores = refl })
+    let a = c.args in roomy a.e a.clock (length a.reply.now) (length a.buffer.now) (sym c.in-Ok.ensures)
 
 pub returns-in-Ok : goal.returns-in-Ok
 returns-in-Ok c =
