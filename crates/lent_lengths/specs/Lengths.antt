@@ -1,5 +1,5 @@
 -- How many bytes an answer says are in each lent buffer (docs/SESSION-SCRIPT.md).
-use Rattle.std.specs.Prelude.{ℕ, Ok, Err}
+use Rattle.std.specs.Prelude.{ℕ, Option, Some, None, Ok, Err}
 use Rattle.ledger.specs.declared.Word.{Word}
 use Rattle.ledger.specs.declared.Word.TheVariants as words
 use Rattle.host_answers.specs.Answers.{ReceiveAnswer, PollAnswer}
@@ -7,14 +7,14 @@ use Rattle.host_answers.specs.declared.PollOutcome.TheVariants as outcome
 
 -- the bytes that a word says are in the data buffer: "Events and responses put their data at the front of the lent data buffer; no
 -- other item touches it."
-unfoldable pub handed_by : Word → ℕ
-handed_by words.Nothing = 0
-handed_by words.Stray = 0
-handed_by words.Repeat = 0
-handed_by words.NotCommand = 0
-handed_by (words.Event c) = c.len
-handed_by (words.Response c) = c.len
-handed_by (words.Unmatched c) = 0
+unfoldable pub handed_by : Option Word → ℕ
+handed_by None = 0
+handed_by (Some words.Stray) = 0
+handed_by (Some words.Repeat) = 0
+handed_by (Some words.NotCommand) = 0
+handed_by (Some (words.Event c)) = c.len
+handed_by (Some (words.Response c)) = c.len
+handed_by (Some (words.Unmatched c)) = 0
 
 -- the bytes that an answer says are in the reply buffer, the data buffer and the output
 unfoldable pub reply_length : ReceiveAnswer → ℕ

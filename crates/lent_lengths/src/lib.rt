@@ -33,17 +33,13 @@ pub fn data_length(answer: ReceiveAnswer) -> usize
 }
 
 #[tactic(auto, unfolding(crate::specs::Lengths::handed_by))]
-fn handed_by(word: Word) -> usize
+fn handed_by(word: Option<Word>) -> usize
     ensures { result ≡ handed_by word }
 {
     match word {
-        Word::Nothing => 0,
-        Word::Stray => 0,
-        Word::Repeat => 0,
-        Word::NotCommand => 0,
-        Word::Event(it) => it.len,
-        Word::Response(it) => it.len,
-        Word::Unmatched(_) => 0,
+        Some(Word::Event(it)) => it.len,
+        Some(Word::Response(it)) => it.len,
+        _ => 0,
     }
 }
 

@@ -5,8 +5,8 @@ use mathlib.Core.List.{List, [], ◌∷◌, ◌++◌, append_assoc}
 use mathlib.Core.Path.{◌≡◌, refl, sym, ap, ◌∙◌}
 use native.Mathlib.Omega.{arith}
 use lib.ListN.{length, length-append}
-use Rattle.std.specs.Prelude.{Option, Result, Ok, Err}
-use Rattle.std.specs.Result.{is_err}
+use Rattle.std.specs.Prelude.{Option, Result, Ok, Err, OnErr, MatchResult}
+use Rattle.std.specs.Result.{is_err, IsErrAnd}
 use Rattle.std.proofs.KnownBytes.{Appends-nil, Appends-trans, Appends-kept, Consumes-nil, Consumes-trans, Consumes-kept}
 use Rattle.message.specs.Items.{Item}
 use Rattle.line.specs.Cuts.{Found, found, handed_each, joined}
@@ -14,10 +14,10 @@ use Rattle.line.proofs.Handed.{handed_joined}
 use Rattle.line.proofs.Laws.{cuts}
 use Rattle.listing_lines.specs.Waiting.{writes, waits, writes_after, waits_after}
 use Rattle.listing.specs.Moving.{Moves, Rests, MovesSome, MovesAll}
-use Rattle.listing.specs.Promises.{ListsSome, ListsAll}
+use Rattle.listing.specs.Promises.{Fails, ListsSome, ListsAll}
 use Rattle.listing.specs.Standing.{items_of, Standing, fresh, listed, writes_in}
-use Rattle.listing.specs.declared.failure.Failure.{Failure}
-use Rattle.listing.specs.declared.failure.Failure.TheVariants.{Read, Write, Endless}
+use Rattle.streams.specs.declared.failure.Failure.{Failure}
+use Rattle.streams.specs.declared.failure.Failure.TheVariants.{Read, Write, Endless}
 
 waits_on : (room : ℕ) (waiting : List ℕ) (a b : List Item)
     → waits_after room waiting (a ++ b) ≡ waits_after room (waits_after room waiting a) b
@@ -56,6 +56,14 @@ listed_none room = rw (← cuts [])
 -- a failure is no end
 not_ended : {f : Failure} → ◌≡◌ {A = Result Unit Failure} (Err f) (Ok tt) → ⊥
 not_ended h = true≢false (ap is_err h)
+
+-- a write that failed while the lines of a piece joined, and its error as the listing's own
+pub write_failed : {T E : Type 0} {Q : E → Failure → Type 0} (r : Result T E) {m : Result T Failure} {f : Failure} {room : ℕ}
+    {start end : Standing} (piece : List ℕ) → OnErr r (Fails room start piece end)
+    → MatchResult r (λ x. m ≡ Ok x) (λ e. IsErrAnd m (Q e)) → ((e : E) (f : Failure) → Q e f → f ≡ Write) → m ≡ Err f
+    → ListsSome (Err f) room start end
+write_failed (Ok x) piece fails cases told is = absurd (true≢false (ap is_err (sym is ∙ cases)))
+write_failed (Err e) {f = f} piece fails cases told is = rw (told e f (rw is at cases)) record { piece = piece; lists = fails }
 
 -- what was read before, and what is read next: it goes on, as long as something comes
 abbrev pub after : Result Bool Failure → Result Unit Failure

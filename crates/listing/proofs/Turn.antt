@@ -54,8 +54,11 @@ module _ (r : Received) (held new exit : List ℕ) (p : Receives r held new exit
     said : (spec.receive held new).answer ≡ item (item_of i)
     said = sym p.answers ∙ ap answer_of told
 
-    pub removes : (r.taken ≤ length new) × (r.count + 2 ≤ length held + r.taken)
-    removes = let w = item_removes held new said in omega (arith, p.takes, p.counts, w.within, w.fewer)
+    pub taken_short : r.taken ≤ length new
+    taken_short = omega (arith, p.takes, (item_removes held new said).within)
+
+    pub fewer_held : r.count + 2 ≤ length held + r.taken
+    fewer_held = omega (arith, p.takes, p.counts, (item_removes held new said).fewer)
 
     -- the item, then what comes of the rest
     next : handed held new

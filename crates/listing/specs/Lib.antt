@@ -1,4 +1,3 @@
-pub mod Failing
 pub mod Standing
 pub mod Promises
 pub mod Moving

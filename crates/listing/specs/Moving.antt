@@ -8,7 +8,7 @@ use Rattle.listing_lines.specs.Text.{end_of}
 use Rattle.listing_lines.specs.Waiting.{lines_of}
 use Rattle.listing.specs.Standing.{items_in, Standing, fresh, listed, writes_in}
 use Rattle.listing.specs.Promises.{on_some, on_all}
-use Rattle.listing.specs.declared.failure.Failure.{Failure}
+use Rattle.streams.specs.declared.failure.Failure.{Failure}
 
 -- "It reads standard input and prints `items`, a line an item .., then `end` and the held count": all that is printed of an input
 unfoldable pub listing_of : (input : List ℕ) → List ℕ

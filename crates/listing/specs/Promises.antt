@@ -2,8 +2,8 @@
 -- waits and of what is held.
 use Rattle.std.specs.Prelude.{ℕ, ◌<◌, Bool, true, false, List, [], ◌≡◌, length, Result, Ok, Err}
 use Rattle.listing.specs.Standing.{Standing, fresh, listed, writes_in}
-use Rattle.listing.specs.declared.failure.Failure.{Failure}
-use Rattle.listing.specs.declared.failure.Failure.TheVariants.{Read, Write, Endless}
+use Rattle.streams.specs.declared.failure.Failure.{Failure}
+use Rattle.streams.specs.declared.failure.Failure.TheVariants.{Read, Write, Endless}
 
 -- the room that lines wait in
 abbrev pub out_room : ℕ

@@ -1,14 +1,11 @@
 // The capture lister (document 01, "Capture lister"): standard input to its end, a line an item, in constant memory.
 #![tactic(auto)]
 
-mod failure; // why a listing did not come to its end
-
 ghost use Rattle.std.specs.Prelude.{◌≡◌, ◌≤◌, OnOk, OnErr};
 ghost use Rattle.std.specs.Io.KnownBytes.{Appends};
 ghost use Rattle.line.specs.Receiving.{held_max};
 ghost use Rattle.listing.specs.Moving.{ListsWell};
 
-pub use crate::failure::Failure;
 use arrayvec::ArrayVec;
 use line::HELD_MAX;
 use line_receiving::receive;
@@ -16,6 +13,8 @@ use listing_lines::add_line;
 use listing_lines::text::put_end;
 use std::io;
 use std::io::{Read, Write};
+pub use streams::failure::Failure;
+use streams::write_out;
 
 // How many bytes are read at once, and how many bytes of lines wait at most.
 const PIECE_LENGTH: usize = 65536;
@@ -45,14 +44,12 @@ pub fn list_standard_input(rt: &(impl Input + Print + Eprint)) {
 pub fn list<R: Read, W: Write>(input: &mut R, output: &mut W) -> Result<(), Failure>
     ensures { OnOk result (ListsWell (R.remaining input.old) (R.remaining input.new) (W.contents output.old) (W.contents output.new)) }
 {
-    if output.write_all(b"items\n").is_err() {
-        return Err(Failure::Write);
-    }
+    output.write_all(b"items\n").map_err(|_| Failure::Write)?;
     let mut listing = Listing::new();
     if let Err(failure) = listing.list_all(input, output) {
         // what waits is written where it was a read that failed
         if let Failure::Read = failure {
-            let _ = output.write_all(&listing.waiting);
+            let _ = write_out(output, &mut listing.waiting);
         }
         return Err(failure);
     }
@@ -102,20 +99,18 @@ impl Listing {
             (R.remaining input.old) (R.remaining input.new) (W.contents output.old) (W.contents output.new) }
     {
         let mut piece = [0; PIECE_LENGTH];
-        let Ok(n) = input.read(&mut piece) else {
-            return Err(Failure::Read);
-        };
+        let n = input.read(&mut piece).map_err(|_| Failure::Read)?;
         if n == 0 {
             return Ok(false);
         }
-        match self.list_piece(output, &piece[..n]) {
-            Ok(()) => Ok(true),
-            Err(_) => Err(Failure::Write),
-        }
+        self.list_piece(output, &piece[..n])
+            .map_err(|_| Failure::Write)?;
+        Ok(true)
     }
 
     // Hands the piece in, its untaken rest again, until *more*: a line for each item joins those that wait.
     // Ruled out: an item without its line, and lines of the pieces before that are forgotten.
+    #[tactic(auto, using(crate::proofs::Turn::taken_short, crate::proofs::Turn::short, crate::proofs::Turn::listed_more, crate::proofs::Turn::sent_none))]
     fn list_piece<W: Write>(&mut self, output: &mut W, piece: &[u8]) -> io::Result<()>
         ensures lists { OnOk result (standing self.new ≡ listed out_room (standing self.old) piece.now) }
         ensures written { OnOk result (Appends (W.contents output.old) (W.contents output.new)
@@ -138,9 +133,8 @@ impl Listing {
     fn finish<W: Write>(&mut self, output: &mut W) -> io::Result<()>
         ensures { OnOk result (Appends (W.contents output.old) (W.contents output.new) (last_of (standing self.old))) }
     {
-        output.write_all(&self.waiting)?;
-        self.waiting.clear();
+        write_out(output, &mut self.waiting)?;
         put_end(&mut self.waiting, self.count);
-        output.write_all(&self.waiting)
+        write_out(output, &mut self.waiting)
     }
 }

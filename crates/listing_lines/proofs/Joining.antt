@@ -1,31 +1,11 @@
--- Lines that wait: what one more does, by whether there is room; and no line is lost.
-use Prim.Native.Nat.{ℕ, ◌+◌, ◌≤◌, ◌<◌}
+-- Lines that wait: no line is lost.
+use Prim.Native.Nat.{ℕ}
 use mathlib.Core.Bool.{Bool, true, false}
 use mathlib.Core.List.{List, [], ◌∷◌, ◌++◌, append_assoc, append-nil}
 use mathlib.Core.Path.{◌≡◌, refl, sym, ap, ◌∙◌}
-use lib.ListN.{length}
-use borrow.Author.Tests.{le-leb, lt-leb}
 use Rattle.message.specs.Items.{Item}
-use Rattle.listing_lines.specs.Text.{line_of, line_room}
+use Rattle.listing_lines.specs.Text.{line_of}
 use Rattle.listing_lines.specs.Waiting.{lines_of, has_room, writes, waits, writes_after, waits_after}
-
--- what is written and what waits, by whether there is room
-module _ (room : ℕ) (waiting : List ℕ) where
-  pub writes_none : length waiting + line_room ≤ room → writes room waiting ≡ []
-  unfolding writes
-  writes_none h = rw (le-leb (length waiting + line_room) room h)
-
-  pub writes_all : room < length waiting + line_room → writes room waiting ≡ waiting
-  unfolding writes
-  writes_all h = rw (lt-leb (length waiting + line_room) room h)
-
-  pub waits_too : (item : Item) → length waiting + line_room ≤ room → waits room waiting item ≡ waiting ++ line_of item
-  unfolding waits
-  waits_too item h = rw (le-leb (length waiting + line_room) room h)
-
-  pub waits_alone : (item : Item) → room < length waiting + line_room → waits room waiting item ≡ line_of item
-  unfolding waits
-  waits_alone item h = rw (lt-leb (length waiting + line_room) room h)
 
 -- one line
 one_by : (room : ℕ) (waiting : List ℕ) (item : Item) (t : Bool) → has_room room waiting ≡ t

@@ -16,10 +16,12 @@ use arrayvec::ArrayVec;
 use message::Item;
 use std::io;
 use std::io::Write;
+use streams::write_out;
 
 // The line of an item joins those that wait; where there is no room for it, those are written first, and it waits alone. Where that
 // write fails, nothing waits. Public for `listing`.
 // Ruled out: a line that is put over those that wait, and one that is left out.
+#[tactic(auto, unfolding(crate::specs::Waiting::writes, crate::specs::Waiting::waits))]
 pub fn add_line<W: Write, const N: usize>(
     output: &mut W,
     out: &mut ArrayVec<u8, N>,
@@ -32,9 +34,7 @@ pub fn add_line<W: Write, const N: usize>(
     ensures fails { OnErr result ((has_room N out.old.items ≡ false) × (out.new.items ≡ [])) }
 {
     if out.remaining_capacity() < LINE_ROOM {
-        let written = output.write_all(out);
-        out.clear();
-        written?;
+        write_out(output, out)?;
     }
     put_line(out, item);
     Ok(())

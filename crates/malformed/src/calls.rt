@@ -39,14 +39,7 @@ fn print_calls(
 // What submit answers.
 fn submitted(e: Endpoint, data: &[u8], clock: u64) -> SubmitAnswer {
     let mut store = [0; STORE_LENGTH];
-    let fields = Fields {
-        tc: 0,
-        tid: 0,
-        sid: 0,
-        iid: 0,
-        cid: 0,
-    };
-    submit(e, &mut store, fields, data, false, clock).answer
+    submit(e, &mut store, Fields::default(), data, false, clock).answer
 }
 
 // What a receive of no bytes answers.

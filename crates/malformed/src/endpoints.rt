@@ -1,6 +1,8 @@
 // An endpoint that meets every limit of the malformed rule exactly, and changes of it.
+ghost use Rattle.std.specs.Prelude.{◌<◌};
+
 use command::{Fields, RequestId};
-use endpoint::{Endpoint, Request, Requests, State};
+use endpoint::{Endpoint, LIVE_MAX, Request, Requests, State};
 use link::frame::Frame;
 use link::repeats::Seen;
 use message::Seq;
@@ -14,7 +16,7 @@ pub(crate) const LATER: u64 = 6;
 
 // R = 255, three live, 265 held.
 pub(crate) fn sound() -> Endpoint {
-    of_rows(first(), second(), third())
+    of_rows([first(), second(), third()])
 }
 
 // It waits since the last reading, with the last ID.
@@ -76,24 +78,17 @@ pub(crate) fn unwanted(q: Request) -> Request {
     Request { wanted: false, ..q }
 }
 
-// The endpoint with another first request.
-pub(crate) fn with_first(q: Request) -> Endpoint {
-    of_rows(q, second(), third())
-}
-
-// The endpoint with another second request.
-pub(crate) fn with_second(q: Request) -> Endpoint {
-    of_rows(first(), q, third())
-}
-
-// The endpoint with another third request.
-pub(crate) fn with_third(q: Request) -> Endpoint {
-    of_rows(first(), second(), q)
+// The endpoint with another request in this row, counted from 0.
+pub(crate) fn with_row(row: usize, q: Request) -> Endpoint
+    requires { row < 3 }
+{
+    let mut rows = [first(), second(), third()];
+    rows[row] = q;
+    of_rows(rows)
 }
 
 // An endpoint with these three live.
-pub(crate) fn of_rows(a: Request, b: Request, c: Request) -> Endpoint {
-    let rows = [a, b, c];
+pub(crate) fn of_rows(rows: [Request; LIVE_MAX]) -> Endpoint {
     Endpoint {
         live: Requests { rows, count: 3 },
         reserved: 255,

@@ -8,8 +8,8 @@ mod endpoints; // an endpoint at every limit, and changes of it
 
 use crate::calls::{print_answers, print_refusals};
 use crate::endpoints::{
-    CLOCK, LATER, first, flight, of_rows, second, sound, third, unwanted, with_count, with_first,
-    with_held, with_id, with_len, with_next, with_reserved, with_second, with_state, with_third,
+    CLOCK, LATER, first, flight, of_rows, second, sound, third, unwanted, with_count, with_held,
+    with_id, with_len, with_next, with_reserved, with_row, with_state,
 };
 use endpoint::State;
 use std::io;
@@ -38,16 +38,16 @@ fn print_sound(rt: &impl Print) -> io::Result<()> {
 
 // "R over 255"
 fn print_reserved(rt: &impl Print) -> io::Result<()> {
-    let higher = of_rows(first(), with_id(second(), 257), with_id(third(), 258));
+    let higher = of_rows([first(), with_id(second(), 257), with_id(third(), 258)]);
     print_answers(rt, "R over 255", with_reserved(with_next(higher, 257), 256))
 }
 
 // "a live .. ID outside R + 1 to 65535"
 fn print_live_ids(rt: &impl Print) -> io::Result<()> {
-    print_answers(rt, "first live ID R", with_first(with_id(first(), 255)))?;
-    print_answers(rt, "second live ID R", with_second(with_id(second(), 255)))?;
-    print_answers(rt, "third live ID R", with_third(with_id(third(), 255)))?;
-    print_answers(rt, "live ID 0", with_third(with_id(third(), 0)))
+    print_answers(rt, "first live ID R", with_row(0, with_id(first(), 255)))?;
+    print_answers(rt, "second live ID R", with_row(1, with_id(second(), 255)))?;
+    print_answers(rt, "third live ID R", with_row(2, with_id(third(), 255)))?;
+    print_answers(rt, "live ID 0", with_row(2, with_id(third(), 0)))
 }
 
 // "a .. next ID outside R + 1 to 65535"
@@ -61,17 +61,17 @@ fn print_equal_ids(rt: &impl Print) -> io::Result<()> {
     print_answers(
         rt,
         "first and second ID equal",
-        with_second(with_id(second(), 65535)),
+        with_row(1, with_id(second(), 65535)),
     )?;
     print_answers(
         rt,
         "first and third ID equal",
-        with_third(with_id(third(), 65535)),
+        with_row(2, with_id(third(), 65535)),
     )?;
     print_answers(
         rt,
         "second and third ID equal",
-        with_third(with_id(third(), 256)),
+        with_row(2, with_id(third(), 256)),
     )
 }
 
@@ -81,12 +81,12 @@ fn print_flights(rt: &impl Print) -> io::Result<()> {
     print_answers(
         rt,
         "first and second in flight",
-        with_first(with_state(first(), flying)),
+        with_row(0, with_state(first(), flying)),
     )?;
     print_answers(
         rt,
         "second and third in flight",
-        with_third(with_state(third(), flying)),
+        with_row(2, with_state(third(), flying)),
     )
 }
 
@@ -102,23 +102,23 @@ fn print_transmitted(rt: &impl Print, what: &str, transmissions: u8) -> io::Resu
     print_answers(
         rt,
         what,
-        with_second(with_state(second(), flight(transmissions, CLOCK))),
+        with_row(1, with_state(second(), flight(transmissions, CLOCK))),
     )
 }
 
 // "a waiting request that wants no response; a time later than the clock"
 fn print_times(rt: &impl Print) -> io::Result<()> {
-    print_answers(rt, "waiting for nothing", with_first(unwanted(first())))?;
+    print_answers(rt, "waiting for nothing", with_row(0, unwanted(first())))?;
     print_answers(
         rt,
         "waiting since later",
-        with_first(with_state(first(), State::Waiting(LATER))),
+        with_row(0, with_state(first(), State::Waiting(LATER))),
     )
 }
 
 // "a time later than the clock"; no other number comes before 1.
 fn print_late(rt: &impl Print) -> io::Result<()> {
-    let late = with_second(with_state(second(), flight(3, LATER)));
+    let late = with_row(1, with_state(second(), flight(3, LATER)));
     print_answers(rt, "sent later", late)?;
     print_refusals(rt, "sent later, faulty calls", late)
 }
@@ -134,17 +134,17 @@ fn print_lengths(rt: &impl Print) -> io::Result<()> {
     print_answers(
         rt,
         "first with 249 bytes",
-        with_first(with_len(first(), 249)),
+        with_row(0, with_len(first(), 249)),
     )?;
     print_answers(
         rt,
         "second with 249 bytes",
-        with_second(with_len(second(), 249)),
+        with_row(1, with_len(second(), 249)),
     )?;
     print_answers(
         rt,
         "third with 249 bytes",
-        with_third(with_len(third(), 249)),
+        with_row(2, with_len(third(), 249)),
     )
 }
 

@@ -2,25 +2,29 @@
 use script_bytes::faults::Fault;
 use std::error::Error;
 use std::fmt;
+use streams::failure::Failure;
 
 #[derive(Clone, Copy, Debug)]
 pub(crate) enum Stop {
     // what is wrong with the line of this number
     Wrong { number: u64, fault: Fault },
-    Endless,
-    ReadFailed,
-    WriteFailed,
+    // why reading or writing stopped
+    Failed(Failure),
 }
 
 impl fmt::Display for Stop {
     fn fmt<W: fmt::Write>(&self, f: &mut fmt::Formatter<W>) -> fmt::Result {
         match self {
             Stop::Wrong { number, fault } => write!(f, "line {number}: {fault}"),
-            Stop::Endless => write!(f, "standard input does not end"),
-            Stop::ReadFailed => write!(f, "reading standard input failed"),
-            Stop::WriteFailed => write!(f, "writing standard output failed"),
+            Stop::Failed(failure) => write!(f, "{failure}"),
         }
     }
 }
 
 impl Error for Stop {}
+
+impl From<Failure> for Stop {
+    fn from(failure: Failure) -> Stop {
+        Stop::Failed(failure)
+    }
+}

@@ -1,22 +1,24 @@
 // What a reader gives, as lines: each is gathered, and run.
 use crate::complaints::Stop;
 use crate::running::Session;
-use crate::sheet::Sheet;
+use crate::sheet::{Line, Sheet};
 use arrayvec::ArrayVec;
 use script_bytes::faults::Fault;
 use std::io::{Read, Write};
+use streams::failure::Failure;
 
 // How many bytes are read at once, and how many a line may have.
 const PIECE_LENGTH: usize = 65536;
 
 const LINE_LENGTH: usize = 65536;
 
-// A script that is run: its session, the line that is gathered and its number, and the answers that wait.
+// A script that is run: its session, the line that is gathered and its number, the line's answer, and the answers that wait.
 #[derive(Drop)]
 pub(crate) struct Script {
     session: Session,
     line: ArrayVec<u8, LINE_LENGTH>,
     number: u64,
+    answer: Line,
     sheet: Sheet,
 }
 
@@ -27,6 +29,7 @@ impl Script {
             session: Session::new(),
             line: ArrayVec::new(),
             number: 1,
+            answer: Line::new(),
             sheet: Sheet::new(),
         }
     }
@@ -44,22 +47,20 @@ impl Script {
                 return Ok(());
             }
         }
-        Err(Stop::Endless)
+        Err(Stop::Failed(Failure::Endless))
     }
 
     // Reads once, runs the lines that came to their end, and writes their answers. Whether there may be more to read.
     fn run_some<R: Read, W: Write>(&mut self, input: &mut R, output: &mut W) -> Result<bool, Stop> {
         let mut piece = [0; PIECE_LENGTH];
-        let Ok(n) = input.read(&mut piece) else {
-            return Err(Stop::ReadFailed);
-        };
+        let n = input.read(&mut piece).map_err(|_| Failure::Read)?;
         let ran = match n {
             // the last line may lack its end
             0 => self.run_line(output),
             _ => self.run_piece(output, &piece[..n]),
         };
         // what was answered is written before what is wrong is told
-        self.sheet.write_out(output).map_err(|_| Stop::WriteFailed)?;
+        self.sheet.write_out(output).map_err(|_| Failure::Write)?;
         ran?;
         Ok(0 < n)
     }
@@ -81,11 +82,13 @@ impl Script {
 
     // Runs the line that is gathered.
     fn run_line<W: Write>(&mut self, output: &mut W) -> Result<(), Stop> {
-        self.sheet.make_room(output).map_err(|_| Stop::WriteFailed)?;
         let number = self.number;
         self.session
-            .run_line(&self.line, &mut self.sheet)
+            .run_line(&self.line, &mut self.answer)
             .map_err(|fault| Stop::Wrong { number, fault })?;
+        self.sheet
+            .add(output, &self.answer)
+            .map_err(|_| Failure::Write)?;
         self.line.clear();
         self.number = number.saturating_add(1);
         Ok(())

@@ -1,11 +1,9 @@
 // The buffers that a call is lent: filled before it, shown as far as it says it put bytes there, and looked at behind that.
 ghost use Rattle.std.specs.Prelude.{◌≡◌, ◌≤◌, length, take, drop};
-ghost use Rattle.texts.specs.Text.{Puts};
 ghost use Rattle.script.specs.Limits.{lent_max};
-ghost use Rattle.runner.specs.Room.{HasRoom, line_room};
 ghost use Rattle.runner.specs.Lent.{touched, receive_line, poll_line};
 
-use crate::sheet::Sheet;
+use crate::sheet::Line;
 use host_answers::{PollAnswer, ReceiveAnswer};
 use lent_lengths::{data_length, frame_length, reply_length};
 use script::calls::LENT_MAX;
@@ -21,30 +19,30 @@ pub(crate) fn filled() -> [u8; LENT_MAX]
     [FILL; LENT_MAX]
 }
 
-impl Sheet {
-    // Puts the line of a receive, from its answer and the buffers as it left them, behind those that wait.
-    pub(crate) fn put_receive(&mut self, answer: ReceiveAnswer, reply: &[u8], buffer: &[u8])
-        requires room { HasRoom self.old }
-        requires reply { length reply.now ≤ lent_max }
-        requires buffer { length buffer.now ≤ lent_max }
-        ensures { Puts line_room (receive_line answer reply.now buffer.now) self.old.lines.items self.new.lines.items }
-    {
-        let (shown, behind) = parted(reply, reply_length(answer));
-        let (handed, past) = parted(buffer, data_length(answer));
-        put_received(&mut self.lines, answer, shown, handed);
-        put_end(&mut self.lines, is_touched(behind) || is_touched(past));
-    }
+// Makes a line of a receive, from its answer and the buffers as it left them.
+#[tactic(auto, unfolding(crate::specs::Lent::receive_line))]
+pub(crate) fn put_receive(line: &mut Line, answer: ReceiveAnswer, reply: &[u8], buffer: &[u8])
+    requires reply { length reply.now ≤ lent_max }
+    requires buffer { length buffer.now ≤ lent_max }
+    ensures { line.new.items ≡ receive_line answer reply.now buffer.now }
+{
+    let (shown, behind) = parted(reply, reply_length(answer));
+    let (handed, past) = parted(buffer, data_length(answer));
+    line.clear();
+    put_received(line, answer, shown, handed);
+    put_end(line, is_touched(behind) || is_touched(past));
+}
 
-    // Puts the line of a poll, from its answer and the output as it left it.
-    pub(crate) fn put_poll(&mut self, answer: PollAnswer, output: &[u8])
-        requires room { HasRoom self.old }
-        requires output { length output.now ≤ lent_max }
-        ensures { Puts line_room (poll_line answer output.now) self.old.lines.items self.new.lines.items }
-    {
-        let (shown, behind) = parted(output, frame_length(answer));
-        put_polled(&mut self.lines, answer, shown);
-        put_end(&mut self.lines, is_touched(behind));
-    }
+// Makes a line of a poll, from its answer and the output as it left it.
+#[tactic(auto, unfolding(crate::specs::Lent::poll_line))]
+pub(crate) fn put_poll(line: &mut Line, answer: PollAnswer, output: &[u8])
+    requires { length output.now ≤ lent_max }
+    ensures { line.new.items ≡ poll_line answer output.now }
+{
+    let (shown, behind) = parted(output, frame_length(answer));
+    line.clear();
+    put_polled(line, answer, shown);
+    put_end(line, is_touched(behind));
 }
 
 // The front of a buffer, of a length that a call answered or all of it, and what is behind.

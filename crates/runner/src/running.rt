@@ -1,10 +1,9 @@
-// The calls of a script, run on one endpoint. Each puts its answer behind the lines that wait.
-ghost use Rattle.std.specs.Prelude.{◌≤◌, length};
+// The calls of a script, run on one endpoint. Each makes a line of its answer.
+ghost use Rattle.std.specs.Prelude.{◌≤◌};
 ghost use Rattle.script.specs.Limits.{lent_max, Within};
-ghost use Rattle.runner.specs.Room.{HasRoom};
 
-use crate::lent::filled;
-use crate::sheet::Sheet;
+use crate::lent::{filled, put_poll, put_receive};
+use crate::sheet::Line;
 use command::Fields;
 use endpoint::{Endpoint, STORE_LENGTH};
 use host::{open, poll, receive, submit};
@@ -28,25 +27,21 @@ impl Session {
         }
     }
 
-    // Runs the call on a line.
-    pub(crate) fn run_line(&mut self, line: &[u8], sheet: &mut Sheet) -> Result<(), Fault>
-        requires { HasRoom sheet.old }
-    {
-        let mut space = filled();
-        let bytes: &mut [u8] = &mut space;
-        match read_call(line, bytes)? {
-            Some(call) => self.run_call(call, bytes, sheet),
+    // Runs the call on a line, and makes a line of its answer: an empty one where there is no call.
+    pub(crate) fn run_line(&mut self, line: &[u8], answer: &mut Line) -> Result<(), Fault> {
+        answer.clear();
+        match read_call(line, &mut filled())? {
+            Some(call) => self.run_call(call, answer),
             None => Ok(()),
         }
     }
 
     // The first call is open, and there is no second one.
-    fn run_call(&mut self, call: Call, bytes: &[u8], sheet: &mut Sheet) -> Result<(), Fault>
-        requires room { HasRoom sheet.old }
-        requires call { Within (length bytes.now) call }
+    fn run_call(&mut self, call: Call<'_>, answer: &mut Line) -> Result<(), Fault>
+        requires { Within lent_max call }
     {
         match (call, self.endpoint) {
-            (Call::Open { reserved }, None) => self.run_open(reserved, sheet),
+            (Call::Open { reserved }, None) => self.run_open(reserved, answer),
             (Call::Open { .. }, Some(_)) => return Err(Fault::OpenedBefore),
             (_, None) => return Err(Fault::NotOpened),
             (
@@ -54,31 +49,30 @@ impl Session {
                     fields,
                     wanted,
                     clock,
-                    len,
+                    bytes,
                 },
                 Some(e),
-            ) => self.run_submit(e, fields, &bytes[..len], wanted, clock, sheet),
+            ) => self.run_submit(e, fields, bytes, wanted, clock, answer),
             (
                 Call::Receive {
                     clock,
                     reply,
                     buffer,
-                    len,
+                    bytes,
                 },
                 Some(e),
-            ) => self.run_receive(e, &bytes[..len], reply, buffer, clock, sheet),
-            (Call::Poll { clock, output }, Some(e)) => self.run_poll(e, output, clock, sheet),
+            ) => self.run_receive(e, bytes, reply, buffer, clock, answer),
+            (Call::Poll { clock, output }, Some(e)) => self.run_poll(e, output, clock, answer),
         }
         Ok(())
     }
 
-    fn run_open(&mut self, reserved: u64, sheet: &mut Sheet)
-        requires { HasRoom sheet.old }
-    {
+    fn run_open(&mut self, reserved: u64, answer: &mut Line) {
         let done = open(reserved);
         self.endpoint = Some(done.endpoint);
-        put_opened(&mut sheet.lines, done.answer);
-        put_end(&mut sheet.lines, false);
+        answer.clear();
+        put_opened(answer, done.answer);
+        put_end(answer, false);
     }
 
     fn run_submit(
@@ -88,14 +82,13 @@ impl Session {
         bytes: &[u8],
         wanted: bool,
         clock: u64,
-        sheet: &mut Sheet,
-    )
-        requires { HasRoom sheet.old }
-    {
+        answer: &mut Line,
+    ) {
         let done = submit(e, &mut self.store, fields, bytes, wanted, clock);
         self.endpoint = Some(done.endpoint);
-        put_submitted(&mut sheet.lines, done.answer);
-        put_end(&mut sheet.lines, false);
+        answer.clear();
+        put_submitted(answer, done.answer);
+        put_end(answer, false);
     }
 
     fn run_receive(
@@ -105,9 +98,8 @@ impl Session {
         reply: usize,
         buffer: usize,
         clock: u64,
-        sheet: &mut Sheet,
+        answer: &mut Line,
     )
-        requires room { HasRoom sheet.old }
         requires first { reply ≤ lent_max }
         requires second { buffer ≤ lent_max }
     {
@@ -117,17 +109,16 @@ impl Session {
         let buffer = &mut second[..buffer];
         let done = receive(e, &mut self.store, bytes, reply, buffer, clock);
         self.endpoint = Some(done.endpoint);
-        sheet.put_receive(done.answer, reply, buffer);
+        put_receive(answer, done.answer, reply, buffer);
     }
 
-    fn run_poll(&mut self, e: Endpoint, output: usize, clock: u64, sheet: &mut Sheet)
-        requires room { HasRoom sheet.old }
+    fn run_poll(&mut self, e: Endpoint, output: usize, clock: u64, answer: &mut Line)
         requires lent { output ≤ lent_max }
     {
         let mut space = filled();
         let output = &mut space[..output];
         let done = poll(e, &mut self.store, output, clock);
         self.endpoint = Some(done.endpoint);
-        sheet.put_poll(done.answer, output);
+        put_poll(answer, done.answer, output);
     }
 }

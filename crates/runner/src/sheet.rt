@@ -4,45 +4,44 @@ ghost use Rattle.std.specs.Prelude.{◌≡◌, []};
 use arrayvec::ArrayVec;
 use std::io;
 use std::io::Write;
+use streams::write_out;
+use texts::put;
 
 // How many bytes of answers wait at most.
 const OUT_LENGTH: usize = 65536;
 
 // Room for a line, its end included, in bytes: two buffers of 4,096 bytes in hexadecimal, and the rest.
-const LINE_ROOM: usize = 17000;
+pub(crate) const LINE_ROOM: usize = 17000;
+
+// A line, or nothing.
+pub(crate) type Line = ArrayVec<u8, LINE_ROOM>;
 
 // The lines that wait.
 #[derive(Drop)]
 pub(crate) struct Sheet {
-    pub(crate) lines: ArrayVec<u8, OUT_LENGTH>,
+    lines: ArrayVec<u8, OUT_LENGTH>,
 }
 
 impl Sheet {
-    ghost use Rattle.runner.specs.Room.{HasRoom};
-
     pub(crate) fn new() -> Sheet {
         Sheet {
             lines: ArrayVec::new(),
         }
     }
 
-    // Sees to it that there is room for a line.
-    pub(crate) fn make_room<W: Write>(&mut self, output: &mut W) -> io::Result<()>
-        ensures { HasRoom self.new }
-    {
+    // A line joins those that wait; where there might be no room for it, those are written first, and it waits alone.
+    pub(crate) fn add<W: Write>(&mut self, output: &mut W, line: &Line) -> io::Result<()> {
         if self.lines.remaining_capacity() < LINE_ROOM {
-            return self.write_out(output);
+            self.write_out(output)?;
         }
+        put(&mut self.lines, line);
         Ok(())
     }
 
     // Writes the lines that wait.
     pub(crate) fn write_out<W: Write>(&mut self, output: &mut W) -> io::Result<()>
-        ensures empty { self.new.lines.items ≡ [] }
-        ensures room { HasRoom self.new }
+        ensures { self.new.lines.items ≡ [] }
     {
-        let written = output.write_all(&self.lines);
-        self.lines.clear();
-        written
+        write_out(output, &mut self.lines)
     }
 }

@@ -1,4 +1,4 @@
-// A line of a script as a call. The bytes that a call names go to the front of a lent buffer; the call says how many they are.
+// A line of a script as a call. The bytes that a call names go to the front of a lent buffer, which the call borrows.
 ghost use Rattle.std.specs.Prelude.{length, IfOk, IfSome};
 ghost use Rattle.script.specs.Limits.{Within};
 
@@ -11,7 +11,7 @@ pub const LENT_MAX: usize = 4096;
 
 // A call with its arguments.
 #[derive(Clone, Copy)]
-pub enum Call {
+pub enum Call<'a> {
     Open {
         reserved: u64,
     },
@@ -19,13 +19,13 @@ pub enum Call {
         fields: Fields,
         wanted: bool,
         clock: u64,
-        len: usize,
+        bytes: &'a [u8],
     },
     Receive {
         clock: u64,
         reply: usize,
         buffer: usize,
-        len: usize,
+        bytes: &'a [u8],
     },
     Poll {
         clock: u64,
@@ -35,8 +35,8 @@ pub enum Call {
 
 // The call on a line, if there is one, or what is wrong with the line: the first fault from the left.
 // Ruled out: a lent buffer of more than 4,096 bytes, and more bytes of a call than were decoded.
-pub fn read_call(line: &[u8], bytes: &mut [u8]) -> Result<Option<Call>, Fault>
-    ensures { IfOk result (λ found. IfSome found (λ call. Within (length bytes.new) call)) }
+pub fn read_call<'a>(line: &[u8], bytes: &'a mut [u8]) -> Result<Option<Call<'a>>, Fault>
+    ensures { IfOk result (λ found. IfSome found (λ call. Within (length bytes.old) call)) }
 {
     if let [] | [b'#', ..] = line {
         return Ok(None);
@@ -48,8 +48,12 @@ pub fn read_call(line: &[u8], bytes: &mut [u8]) -> Result<Option<Call>, Fault>
 }
 
 // The call of this name, with its arguments from the line.
-fn read_arguments(word: &[u8], line: &mut Reader, bytes: &mut [u8]) -> Result<Call, Fault>
-    ensures { IfOk result (λ call. Within (length bytes.new) call) }
+fn read_arguments<'a>(
+    word: &[u8],
+    line: &mut Reader,
+    bytes: &'a mut [u8],
+) -> Result<Call<'a>, Fault>
+    ensures { IfOk result (λ call. Within (length bytes.old) call) }
 {
     let call = match word {
         b"open" => Call::Open {
@@ -59,13 +63,13 @@ fn read_arguments(word: &[u8], line: &mut Reader, bytes: &mut [u8]) -> Result<Ca
             fields: read_fields(line)?,
             wanted: line.wanted()?,
             clock: line.number(u64::MAX)?,
-            len: line.bytes(bytes)?,
+            bytes: line.bytes(bytes)?,
         },
         b"receive" => Call::Receive {
             clock: line.number(u64::MAX)?,
             reply: line.lent()?,
             buffer: line.lent()?,
-            len: line.bytes(bytes)?,
+            bytes: line.bytes(bytes)?,
         },
         b"poll" => Call::Poll {
             clock: line.number(u64::MAX)?,

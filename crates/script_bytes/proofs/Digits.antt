@@ -1,6 +1,6 @@
 -- The hexadecimal digits of a script, one after the other.
-use Prim.Native.Nat.{ℕ, ◌+◌, ◌-◌, ◌*◌, ◌≤◌, ◌<◌}
-use mathlib.Core.List.{List, [], ◌∷◌, ◌++◌}
+use Prim.Native.Nat.{ℕ, ◌+◌, ◌-◌, ◌*◌, ◌/◌, ◌≤◌, ◌<◌}
+use mathlib.Core.List.{List, [], ◌∷◌, ◌++◌, append-nil}
 use mathlib.Core.Path.{◌≡◌, refl}
 use native.Mathlib.Numerals.{add-one}
 use native.Mathlib.Omega.{arith}
@@ -35,8 +35,14 @@ bytes_step n h l pair t s all b within some few is high low inv =
     rw (add-one, take-suc-set b n (h * 16 + l) within, append_snoc (take n b) (h * 16 + l) (bytes_of t))
     (rw (high, low, ← bytes_next pair t some few, ← is) inv)
 
--- no more pairs
-pub bytes_end : (s : List ℕ) → length s ≡ 0 → bytes_of s ≡ []
+-- no more pairs: what was read is as long as half of the digits
+bytes_none : (s : List ℕ) → length s ≡ 0 → bytes_of s ≡ []
 unfolding bytes_of
-bytes_end [] none = refl
-bytes_end (h ∷ s) none = let z : ◌≡◌ {A = ℕ} 0 1 = omega arith in cc
+bytes_none [] none = refl
+bytes_none (h ∷ s) none = let z : ◌≡◌ {A = ℕ} 0 1 = omega arith in cc
+
+pub bytes_end : (i : ℕ) (rest all b : List ℕ) → length rest ≡ 0 → 2 * i + length rest ≡ length all → take i b ++ bytes_of rest ≡ bytes_of all
+    → take (length all / 2) b ≡ bytes_of all
+bytes_end i rest all b none size inv =
+    let half : length all / 2 ≡ i = omega (arith, none, size) in
+    rw half (rw (bytes_none rest none, append-nil) at inv)

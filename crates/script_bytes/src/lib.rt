@@ -11,6 +11,7 @@ use crate::faults::Fault;
 
 // Decodes pairs to the front of a lent buffer, and answers how many bytes they are. Public for `script`.
 // Ruled out: the digits of a byte exchanged, and a count past the buffer's end.
+#[tactic(auto, using(crate::proofs::Digits::bytes_end))]
 pub fn decode(digits: &[u8], bytes: &mut [u8]) -> Result<usize, Fault>
     ensures within { IfOk result (λ count. count ≤ length bytes.new) }
     ensures reads { IfOk result (λ count. take count bytes.new ≡ bytes_of digits.now) }
@@ -18,21 +19,19 @@ pub fn decode(digits: &[u8], bytes: &mut [u8]) -> Result<usize, Fault>
     if digits.is_empty() {
         return Err(Fault::NotPairs);
     }
-    let mut count = 0;
-    for pair in digits.chunks(2) {
+    for (i, pair) in digits.chunks(2).enumerate() {
         let [high, low] = pair else {
             return Err(Fault::NotPairs);
         };
         let (Some(high), Some(low)) = (digit_of(*high), digit_of(*low)) else {
             return Err(Fault::NotPairs);
         };
-        if bytes.len() <= count {
+        if bytes.len() <= i {
             return Err(Fault::TooManyBytes);
         }
-        bytes[count] = high * 16 + low;
-        count += 1;
+        bytes[i] = high * 16 + low;
     }
-    Ok(count)
+    Ok(digits.len() / 2)
 }
 
 // The value of a lowercase hexadecimal digit.

@@ -13,15 +13,8 @@ use Rattle.io.specs.Digits.{hex_digit_ascii, last_digits, IsDigitCount}
 use Rattle.texts.specs.Text.{ascii, decimal_in, decimal, digits_max, pair, pairs, shown_as, Puts}
 
 -- one text behind another
-pub behind : {k j : ℕ} {m n l x y : List ℕ} → Puts k m l x → Puts j n x y → Puts (k + j) (m ++ n) l y
-behind {m = m} {n = n} {l = l} p q = record {
-  within = omega (arith, p.within, q.within);
-  reads = q.reads ∙ ap (λ (z : List ℕ). z ++ n) p.reads ∙ append_assoc l m n;
-}
-
--- the same text, in other words
-pub puts : {m n l x : List ℕ} → m ≡ n → Puts (length m) m l x → Puts (length n) n l x
-puts same p = rw same at p
+pub joined : (m n l x y : List ℕ) → x ≡ l ++ m → y ≡ x ++ n → y ≡ l ++ (m ++ n)
+joined m n l x y first second = second ∙ ap (λ (z : List ℕ). z ++ n) first ∙ append_assoc l m n
 
 -- the same text in a larger room
 pub wider : {k j : ℕ} {m l x : List ℕ} → k ≤ j → Puts k m l x → Puts j m l x
@@ -83,6 +76,9 @@ pair_of k b d few small digits =
     let high : b / 16 % 16 ≡ b / 16 = omega arith in
     digits ∙ rw (two, high)
 
+pub pair_length : (k b : ℕ) (d : List ℕ) → IsDigitCount 16 2 b k → b < 256 → take k d ≡ last_digits 16 k b → length (take k d) ≡ 2
+pair_length k b d few small digits = ap length (pair_of k b d few small digits)
+
 -- a byte put, as the invariant of the loop over them, and the end of it
 pub pairs_step : (s : List ℕ) (i : ℕ) (l x y : List ℕ) → i < length s → y ≡ x ++ pair (get_or s i 0) → x ++ pairs (drop i s) ≡ l
     → y ++ pairs (drop (i + 1) s) ≡ l
@@ -90,17 +86,17 @@ unfolding pairs
 pairs_step s i l x y within put so_far =
     rw (put, append_assoc x (pair (get_or s i 0)) (pairs (drop (i + 1) s))) (rw (drop_more s i 0 within) at so_far)
 
-pub pairs_end : (s : List ℕ) (i : ℕ) (l x : List ℕ) → length s ≤ i → x ++ pairs (drop i s) ≡ l → x ≡ l
+pairs_end : (s : List ℕ) (i : ℕ) (l x : List ℕ) → length s ≤ i → x ++ pairs (drop i s) ≡ l → x ≡ l
 unfolding pairs
 pairs_end s i l x over so_far = rw (drop_of_length-le s {i = i} over, append-nil) at so_far
 
--- bytes shown: none, and some
+-- bytes shown: none, and the end of some
 pub shown_none : (s : List ℕ) → length s ≡ 0 → shown_as s ≡ ascii "-"
 unfolding shown_as
 shown_none [] none = refl
 shown_none (b ∷ s) none = let z : ◌≡◌ {A = ℕ} 0 1 = omega arith in cc
 
-pub shown_some : (s : List ℕ) → (length s ≡ 0 → ⊥) → shown_as s ≡ pairs s
+pub shown_end : (s : List ℕ) (i : ℕ) (l x : List ℕ) → 0 < length s → length s ≤ i → x ++ pairs (drop i s) ≡ l ++ pairs s → x ≡ l ++ shown_as s
 unfolding shown_as
-shown_some [] some = absurd (some refl)
-shown_some (b ∷ s) some = refl
+shown_end [] i l x some over so_far = let z : ◌≡◌ {A = ℕ} 0 1 = omega (arith, some) in cc
+shown_end (b ∷ s) i l x some over so_far = pairs_end (b ∷ s) i (l ++ pairs (b ∷ s)) x over so_far

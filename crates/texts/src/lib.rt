@@ -18,6 +18,7 @@ pub fn put<const N: usize>(out: &mut ArrayVec<u8, N>, text: &[u8])
 
 // A number in decimal, where there is room for its digits.
 // Ruled out: a number that lacks its last digit, and leading zeros.
+#[tactic(auto, using(crate::proofs::Putting::digits_of))]
 pub fn put_number<const N: usize>(out: &mut ArrayVec<u8, N>, n: u64)
     requires { length out.old.items + length (decimal n) ≤ N }
     ensures { Puts (length (decimal n)) (decimal n) out.old.items out.new.items }
@@ -29,6 +30,7 @@ pub fn put_number<const N: usize>(out: &mut ArrayVec<u8, N>, n: u64)
 
 // A number behind a word.
 // Ruled out: the number before the word, and a space between them that the word does not have.
+#[tactic(auto, using(crate::proofs::Putting::digits_within, crate::proofs::Putting::joined))]
 pub fn put_named<const N: usize>(out: &mut ArrayVec<u8, N>, word: &[u8], n: u64)
     requires { length out.old.items + (length word.now + digits_max) ≤ N }
     ensures { Puts (length word.now + digits_max) (named word.now n) out.old.items out.new.items }
@@ -48,6 +50,7 @@ pub fn put_spaced<const N: usize>(out: &mut ArrayVec<u8, N>, n: u64)
 
 // Bytes as pairs of hexadecimal digits, `-` for none.
 // Ruled out: the digits of a byte exchanged, and nothing at all for no bytes.
+#[tactic(auto, using(crate::proofs::Putting::pairs_step, crate::proofs::Putting::shown_none, crate::proofs::Putting::shown_end), unfolding(crate::specs::Text::pairs))]
 pub fn put_bytes<const N: usize>(out: &mut ArrayVec<u8, N>, shown: &[u8])
     requires { length out.old.items + (1 + pairs_room shown.now) ≤ N }
     ensures { Puts (1 + pairs_room shown.now) (shown_as shown.now) out.old.items out.new.items }
@@ -60,6 +63,7 @@ pub fn put_bytes<const N: usize>(out: &mut ArrayVec<u8, N>, shown: &[u8])
     }
 }
 
+#[tactic(auto, using(crate::proofs::Putting::pair_of, crate::proofs::Putting::pair_length))]
 fn put_pair<const N: usize>(out: &mut ArrayVec<u8, N>, byte: u8)
     requires { length out.old.items + 2 ≤ N }
     ensures { out.new.items ≡ out.old.items ++ pair byte }

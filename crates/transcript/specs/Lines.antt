@@ -29,15 +29,15 @@ item_text (Some i) = one_text i
 unfoldable pub command_text : List ℕ → Command → List ℕ
 command_text w c = w ++ (fields_text c.fields ++ (named (ascii " ") c.id.0 ++ named (ascii " ") c.len))
 
--- the word that a message earned
-unfoldable pub word_text : Word → List ℕ
-word_text words.Nothing = ascii " none"
-word_text words.Stray = ascii " stray"
-word_text words.Repeat = ascii " repeat"
-word_text words.NotCommand = ascii " not-a-command"
-word_text (words.Event c) = command_text (ascii " event") c
-word_text (words.Response c) = command_text (ascii " response") c
-word_text (words.Unmatched c) = command_text (ascii " unmatched") c
+-- the word that a message earned, if any
+unfoldable pub word_text : Option Word → List ℕ
+word_text None = ascii " none"
+word_text (Some words.Stray) = ascii " stray"
+word_text (Some words.Repeat) = ascii " repeat"
+word_text (Some words.NotCommand) = ascii " not-a-command"
+word_text (Some (words.Event c)) = command_text (ascii " event") c
+word_text (Some (words.Response c)) = command_text (ascii " response") c
+word_text (Some (words.Unmatched c)) = command_text (ascii " unmatched") c
 
 -- a length and bytes behind a name
 unfoldable pub lent_text : List ℕ → ℕ → List ℕ → List ℕ
@@ -59,7 +59,7 @@ submit_text (Ok id) = named (ascii "submitted ") id.0
 submit_text (Err r) = named (ascii "submit refused ") (number_of r)
 
 -- receive: the item and the word
-unfoldable pub judged_text : Option Item → Word → List ℕ
+unfoldable pub judged_text : Option Item → Option Word → List ℕ
 judged_text i w = ascii "received " ++ (item_text i ++ word_text w)
 
 -- then the bytes taken, the reply, the data and the ending

@@ -77,7 +77,7 @@ fn put_receipt<const N: usize>(
 }
 
 #[tactic(auto, unfolding(crate::specs::Lines::judged_text))]
-fn put_judged<const N: usize>(out: &mut ArrayVec<u8, N>, item: Option<Item>, word: Word)
+fn put_judged<const N: usize>(out: &mut ArrayVec<u8, N>, item: Option<Item>, word: Option<Word>)
     requires { length out.old.items + judged_room ≤ N }
     ensures { Puts judged_room (judged_text item word) out.old.items out.new.items }
 {

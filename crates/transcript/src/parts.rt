@@ -47,20 +47,20 @@ fn put_message<const N: usize>(out: &mut ArrayVec<u8, N>, kind: u8, seq: Seq, le
     put_spaced(out, len as u64);
 }
 
-// The word that a message earned.
+// The word that a message earned, or that it earned none.
 #[tactic(auto, unfolding(crate::specs::Lines::word_text))]
-pub(crate) fn put_word<const N: usize>(out: &mut ArrayVec<u8, N>, word: Word)
+pub(crate) fn put_word<const N: usize>(out: &mut ArrayVec<u8, N>, word: Option<Word>)
     requires { length out.old.items + word_room ≤ N }
     ensures { Puts word_room (word_text word) out.old.items out.new.items }
 {
     match word {
-        Word::Nothing => put(out, b" none"),
-        Word::Stray => put(out, b" stray"),
-        Word::Repeat => put(out, b" repeat"),
-        Word::NotCommand => put(out, b" not-a-command"),
-        Word::Event(it) => put_command(out, b" event", it),
-        Word::Response(it) => put_command(out, b" response", it),
-        Word::Unmatched(it) => put_command(out, b" unmatched", it),
+        None => put(out, b" none"),
+        Some(Word::Stray) => put(out, b" stray"),
+        Some(Word::Repeat) => put(out, b" repeat"),
+        Some(Word::NotCommand) => put(out, b" not-a-command"),
+        Some(Word::Event(it)) => put_command(out, b" event", it),
+        Some(Word::Response(it)) => put_command(out, b" response", it),
+        Some(Word::Unmatched(it)) => put_command(out, b" unmatched", it),
     }
 }
 

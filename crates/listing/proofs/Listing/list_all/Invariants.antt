@@ -5,7 +5,7 @@ use Rattle.listing.specs.Moving.{MovesAll}
 use Rattle.listing.specs.Promises.{out_room, ListsAll}
 use Rattle.listing.specs.Reached.{standing}
 use Rattle.listing.specs.Standing.{fresh}
-use Rattle.listing.specs.declared.failure.Failure.TheVariants.{Endless}
+use Rattle.streams.specs.declared.failure.Failure.TheVariants.{Endless}
 use Rattle.listing.proofs.Listing.list_all.Given as goal
 
 abbrev pub invariant-loop : goal.invariant-loop

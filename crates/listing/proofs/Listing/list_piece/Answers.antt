@@ -1,28 +1,14 @@
 -- `listing::Listing::list_piece` meets its contract: after each item, what is left comes to what all of the piece comes to. It ends: each
 -- item leaves fewer bytes, held or in the rest.
-use mathlib.Core.Path.{refl, ◌∙◌}
 use native.Mathlib.Omega.{arith}
 use lib.ListN.{length-take, length-drop}
-use Rattle.listing.proofs.Turn.{removes, left_next, left_fails, listed_more, sent_none, sent_next, sent_more, short, counted, on_err}
+use Rattle.listing.proofs.Turn.{taken_short, fewer_held, left_next, left_fails, sent_next, sent_more, counted, on_err}
 use Rattle.listing.proofs.Listing.list_piece.Goals as goal
-
-pub loop-item-init : goal.loop-item-init
-loop-item-init g c = (record { same = refl; fewer = omega arith }, sent_none _ _ _ _)
-
-pub returns-in_default-clause-lists : goal.returns-in_default-clause-lists
-returns-in_default-clause-lists g c =
-    let r = c.receive-received in
-    listed_more r.result _ _ _ r.ensures c.in_default.is _ _ ∙ c.loop-item.invariant.0.same
 
 pub returns-in_default-clause-written : goal.returns-in_default-clause-written
 returns-in_default-clause-written g c =
     let r = c.receive-received in
     sent_more r.result _ _ _ r.ensures c.in_default.is _ _ c.loop-item.invariant.1
-
-pub add_line-requires : goal.add_line-requires
-add_line-requires g c =
-    let r = c.receive-received in
-    (omega arith, (omega arith, short r.result _ _ _ r.ensures _ c.in-Some.is))
 
 pub returns-in_err-add_line-clause-fails : goal.returns-in_err-add_line-clause-fails
 returns-in_err-add_line-clause-fails g c =
@@ -30,21 +16,12 @@ returns-in_err-add_line-clause-fails g c =
     on_err c.from_residual.result
     (left_fails r.result _ _ _ r.ensures _ c.in-Some.is _ _ c.loop-item.invariant.0 (omega arith) c.in_err-add_line.ensures.fails)
 
-pub slice_bounds-rest-count : goal.slice_bounds-rest-count
-slice_bounds-rest-count g c =
-    let r = c.receive-received in
-    (removes r.result _ _ _ r.ensures _ c.in-Some.is).0
-
-pub slice_bounds-rest-start : goal.slice_bounds-rest-start
-slice_bounds-rest-start g c =
-    let r = c.receive-received in
-    (removes r.result _ _ _ r.ensures _ c.in-Some.is).0
-
 pub loop-item-smaller : goal.loop-item-smaller
 loop-item-smaller g c =
     let r = c.receive-received in
-    let w = removes r.result _ _ _ r.ensures _ c.in-Some.is in
-    simp (length-take, length-drop) (omega (arith, w, counted c.loop-item.self.count c.loop-item.self.held))
+    let short = taken_short r.result _ _ _ r.ensures _ c.in-Some.is in
+    let fewer = fewer_held r.result _ _ _ r.ensures _ c.in-Some.is in
+    simp (length-take, length-drop) (omega (arith, short, fewer, counted c.loop-item.self.count c.loop-item.self.held))
 
 pub loop-item-preserved : goal.loop-item-preserved
 loop-item-preserved g c =

@@ -1,8 +1,8 @@
--- What the lister says on standard error of a listing that did not come to its end.
+-- What a program says on standard error where reading or writing stopped.
 use Rattle.std.specs.Prelude.{ℕ, List}
 use Rattle.texts.specs.Text.{ascii}
-use Rattle.listing.specs.declared.failure.Failure.{Failure}
-use Rattle.listing.specs.declared.failure.Failure.TheVariants.{Read, Write, Endless}
+use Rattle.streams.specs.declared.failure.Failure.{Failure}
+use Rattle.streams.specs.declared.failure.Failure.TheVariants.{Read, Write, Endless}
 
 unfoldable pub said : Failure → List ℕ
 said Read = ascii "reading standard input failed"

@@ -1,6 +1,6 @@
-// Why a listing did not come to its end.
+// Why standard input was not read to its end, or what was to be written was not.
 ghost use Rattle.std.specs.Prelude.{Some};
-ghost use Rattle.listing.specs.Failing.{said};
+ghost use Rattle.streams.specs.Failing.{said};
 
 use std::error::Error;
 use std::fmt;
