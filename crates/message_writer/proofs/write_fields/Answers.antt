@@ -14,5 +14,5 @@ unfolding fields le16
 returns c =
     let a = c.args in
     copied_front _ _ a.buffer.now _
-    (ap (λ (b : List ℕ). a.kind ∷ get_or b 0 0 ∷ get_or b 1 0 ∷ a.seq.0 ∷ []) (c.to_le_bytes.ensures ∙ le16_bytes a.len (omega arith)))
+    (ap (λ (b : List ℕ). a.header.kind ∷ get_or b 0 0 ∷ get_or b 1 0 ∷ a.header.seq.0 ∷ []) (c.to_le_bytes.ensures ∙ le16_bytes a.header.len (omega (arith, a.header.short))))
     c.copy.ensures.whole
