@@ -10,6 +10,7 @@ const POLYNOMIAL: u16 = 0x1021;
 const START: u16 = 0xFFFF;
 
 // The checksum of the bytes, of any number; of none it is 0xFFFF.
+#[tactic(auto, using(crate::proofs::Turns::next_byte, crate::proofs::Turns::last_byte), unfolding(crate::specs::Checksum::checksum_of))]
 pub fn checksum(bytes: &[u8]) -> u16
     ensures { result ≡ checksum_of bytes.now }
 {
@@ -21,16 +22,18 @@ pub fn checksum(bytes: &[u8]) -> u16
 }
 
 // The register after one byte, its highest bit first.
+#[tactic(auto, using(crate::proofs::Turns::all_bits, crate::proofs::Turns::next_bit, crate::proofs::Turns::last_bit))]
 fn with_byte(mut register: u16, byte: u8) -> u16
     ensures { result ≡ with_bits register (bits_of byte) }
 {
-    for place in [7u32, 6, 5, 4, 3, 2, 1, 0] {
+    for place in (0..8u32).rev() {
         register = with_bit(register, (byte >> place) as u16 % 2);
     }
     register
 }
 
 // The register after one bit, 0 or 1.
+#[tactic(auto, unfolding(crate::specs::Checksum::with_bit))]
 fn with_bit(register: u16, bit: u16) -> u16
     ensures { result ≡ with_bit register bit }
 {

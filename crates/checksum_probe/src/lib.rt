@@ -1,6 +1,6 @@
-// The checksum bit by bit, as its definition words it, for the benchmarks alone: the library computes it by words, and nothing
-// in it calls this one. `include/fizrahum.h` does not declare it.
-// Stays: the code of crate `checksum` once more, since must-fail edits of this crate change its polynomial, its start and its bits.
+// The checksum bit by bit, as its definition words it, as a C function to measure another way of computing it by. No crate, program or
+// benchmark calls it yet, and `include/fizrahum.h` does not declare it.
+// Stays: the code of crate `checksum` and no call of it, since must-fail edits of this crate change its polynomial, start and bits.
 #![tactic(auto)]
 
 ghost use Rattle.std.specs.Prelude.{◌≡◌};
@@ -18,6 +18,7 @@ pub extern "C" fn fizrahum_probe_checksum(bytes: &[u8]) -> u16
     by_bits(bytes)
 }
 
+#[tactic(auto, using(checksum::proofs::Turns::next_byte, checksum::proofs::Turns::last_byte), unfolding(checksum::specs::Checksum::checksum_of))]
 fn by_bits(bytes: &[u8]) -> u16
     ensures { result ≡ checksum_of bytes.now }
 {
@@ -29,16 +30,18 @@ fn by_bits(bytes: &[u8]) -> u16
 }
 
 // The register after one byte, its highest bit first.
+#[tactic(auto, using(checksum::proofs::Turns::all_bits, checksum::proofs::Turns::next_bit, checksum::proofs::Turns::last_bit))]
 fn with_byte(mut register: u16, byte: u8) -> u16
     ensures { result ≡ with_bits register (bits_of byte) }
 {
-    for place in [7u32, 6, 5, 4, 3, 2, 1, 0] {
+    for place in (0..8u32).rev() {
         register = with_bit(register, (byte >> place) as u16 % 2);
     }
     register
 }
 
 // The register after one bit, 0 or 1.
+#[tactic(auto, unfolding(checksum::specs::Checksum::with_bit))]
 fn with_bit(register: u16, bit: u16) -> u16
     ensures { result ≡ with_bit register bit }
 {

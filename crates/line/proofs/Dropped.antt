@@ -10,7 +10,7 @@ use Rattle.message.proofs.Dropping.{dropped_within}
 use Rattle.line.specs.Receiving.{held_max, receive}
 use Rattle.line.proofs.Gives.{undecided_left}
 use Rattle.line.proofs.Joined.{later, scan_joined}
-use Rattle.line.proofs.Moving.{drop_take}
+use Rattle.std.proofs.lemmas.List.{drop-take}
 use Rattle.line.proofs.Taking.{receive_dropped}
 
 left_by : (d : ℕ) (s : Scan) → undecided d ≡ later d s → s ≡ undecided 0
@@ -45,7 +45,7 @@ module _ (count d : ℕ) (array : List ℕ) (size : length array ≡ held_max) (
   -- some are left
   module _ (kept : ℕ) (sum : d + kept ≡ count) where
     there : take kept (drop d array) ≡ drop d (take count array)
-    there = rw (← sum) (sym (drop_take d kept array))
+    there = rw (← sum) (sym (drop-take d kept array))
 
     pub waits : scan (take kept (drop d array)) ≡ undecided 0
     waits = rw there (left_waits (take count array) none)

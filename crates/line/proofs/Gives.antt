@@ -22,7 +22,7 @@ use Rattle.line.specs.Promises.{Decides, part_of}
 use Rattle.line.specs.Receiving.{held_max, decides, taken, received_from, receive}
 use Rattle.line.specs.declared.Place.TheVariants.{Held, New}
 use Rattle.line.specs.declared.Decision.{Decision}
-use Rattle.line.proofs.Moving.{drop_take}
+use Rattle.std.proofs.lemmas.List.{drop-take}
 use Rattle.line.proofs.Reach.{reached, reach_within}
 use Rattle.line.proofs.Taking.{at_more, at_new, taken_new}
 
@@ -138,7 +138,7 @@ module _ (i : Item) (n r k : ℕ) (new : List ℕ) (h : scan new ≡ decided (it
       let e = ends in
       let t = at_new new k h (last ∙ taken_new new h) in
       let sum : n + r + (k - (n + r)) ≡ k = omega (arith, e) in
-      let rest : drop (n + r) (take k new) ≡ follows = rw sum at (drop_take (n + r) (k - (n + r)) new) in
+      let rest : drop (n + r) (take k new) ≡ follows = rw sum at (drop-take (n + r) (k - (n + r)) new) in
       let size : length follows ≤ k - (n + r) = rw (length-take (k - (n + r)) (drop (n + r) new)) (omega arith) in
       record {
         gives =

@@ -4,21 +4,20 @@ ghost use Rattle.message.specs.Writing.{placed};
 
 // Moves count bytes from a place to the front. For the crates above, which know that they lie in the array.
 // Ruled out: a byte that is written over before it is moved, and one behind the moved ones that changes.
+#[tactic(auto, using(crate::proofs::Moving::length_part), unfolding(message::specs::Writing::placed))]
 pub fn move_to_front(array: &mut [u8], from: usize, count: usize)
     requires { from + count ≤ length array.old }
     ensures { array.new ≡ placed 0 (take count (drop from array.old)) array.old }
 {
     if from == 0 {
-        return;
+        return; // where they stand; by single bytes the line is twice as fast so
     }
-    // Stays: a loop, since std has no copy_within.
-    for i in 0..count {
-        array[i] = array[from + i];
-    }
+    array.copy_within(from..from + count, 0);
 }
 
 // Puts bytes at a place. For the crates above, which know that they fit there.
 // Ruled out: bytes put one place late, and one before or behind them that changes.
+#[tactic(auto, using(message::proofs::Buffer::copied))]
 pub fn put_at(array: &mut [u8], at: usize, bytes: &[u8])
     requires { at + length bytes.now ≤ length array.old }
     ensures { array.new ≡ placed at bytes.now array.old }

@@ -1,39 +1,15 @@
 -- Laws of dropping: its cases, and where it stops.
-use Prim.Native.Nat.{ℕ, suc, ◌≤◌, ◌<◌}
+use Prim.Native.Nat.{ℕ, zero, suc, ◌≤◌, ◌<◌}
 use mathlib.Core.Bool.{Bool, true, false, cond as if}
 use mathlib.Core.List.{List, [], ◌∷◌}
-use mathlib.Core.Path.{◌≡◌, refl, sym}
+use mathlib.Core.Path.{◌≡◌, refl, ap}
 use native.Mathlib.Omega.{arith}
 use lib.Dec.{eqb}
-use lib.ListN.{length, take, drop, get_or}
-use borrow.Author.Tests.{eq-eqb, ne_eqb, eqb-true}
+use lib.ListN.{length, take, drop}
+use borrow.Author.Tests.{eqb-true}
 use Rattle.message.specs.Bytes.{syn1, syn2, syn}
 use Rattle.message.specs.Items.{stands, dropped}
 use Rattle.message.proofs.Headers.{both}
-
--- the cases of `stands`
-pub stands_empty : (xs : List ℕ) → length xs ≡ 0 → false ≡ stands xs
-unfolding stands
-stands_empty [] h = refl
-stands_empty (x ∷ xs) h = absurd (omega arith)
-
-pub stands_other : (xs : List ℕ) → (get_or xs 0 0 ≡ syn1 → ⊥) → false ≡ stands xs
-unfolding stands
-stands_other [] h = refl
-stands_other (x ∷ []) h = sym (ne_eqb x syn1 h)
-stands_other (x ∷ y ∷ xs) h = rw (ne_eqb x syn1 h)
-
-pub stands_lone : (xs : List ℕ) → 0 < length xs → length xs < 2 → eqb (get_or xs 0 0) syn1 ≡ stands xs
-unfolding stands
-stands_lone [] some few = absurd (omega arith)
-stands_lone (x ∷ []) some few = refl
-stands_lone (x ∷ y ∷ xs) some few = absurd (omega arith)
-
-pub stands_pair : (xs : List ℕ) → 1 < length xs → get_or xs 0 0 ≡ syn1 → eqb (get_or xs 1 0) syn2 ≡ stands xs
-unfolding stands
-stands_pair [] h e = absurd (omega arith)
-stands_pair (x ∷ []) h e = absurd (omega arith)
-stands_pair (x ∷ y ∷ xs) h e = rw (eq-eqb x syn1 e)
 
 -- the cases of `dropped`
 pub dropped_none : (xs : List ℕ) → length xs ≤ 0 → dropped xs ≡ 0
@@ -50,6 +26,16 @@ pub dropped_next : (xs : List ℕ) → 0 < length xs → stands xs ≡ false →
 unfolding dropped
 dropped_next [] some h = absurd (omega arith)
 dropped_next (x ∷ xs) some h = rw h
+
+-- so many are dropped as stand before the first place at which SYN stands
+pub dropped_before : (xs : List ℕ) (i : ℕ) → i ≤ length xs → (i < length xs → stands (drop i xs) ≡ true)
+    → ((k : ℕ) → k < i → stands (drop k xs) ≡ false) → i ≡ dropped xs
+unfolding dropped
+dropped_before [] i within here before = omega arith
+dropped_before (x ∷ xs) zero within here before = rw (here (omega arith))
+dropped_before (x ∷ xs) (suc i) within here before =
+    let next = dropped_before xs i (omega arith) (λ less. here (omega arith)) (λ k less. before (suc k) (omega arith)) in
+    rw (before 0 (omega arith)) (ap suc next)
 
 -- no more is dropped than there is
 one_more : (t : Bool) {d n : ℕ} → d ≤ n → if t 0 (suc d) ≤ suc n

@@ -10,6 +10,13 @@ pub data Item : Type 0 where
   damaged_payload : Item
   message : (type seq len : ℕ) → Item
 
+-- of rules 1 to 6, the number of the one that decides an item; 1 and 4 leave it undecided
+abbrev pub rule_of : Item → ℕ
+rule_of damaged_header = 2
+rule_of forbidden = 3
+rule_of damaged_payload = 5
+rule_of (message type seq len) = 6
+
 -- "the first item .., with the bytes dropped before it and the bytes removed with it, or undecided with the bytes dropped"
 pub data Scan : Type 0 where
   undecided : (dropped : ℕ) → Scan

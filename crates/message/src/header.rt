@@ -44,13 +44,15 @@ pub const OVERHEAD: usize = 10;
 
 // Whether SYN stands in front, or what may become one: its first byte at the end. For the reader, which drops bytes until it does.
 // Ruled out: no to a lone first byte at the end, and yes to SYN with its two bytes exchanged.
+#[tactic(auto, unfolding(crate::specs::Items::stands))]
 pub fn syn_stands(rest: &[u8]) -> bool
     ensures { result ≡ stands rest.now }
 {
     match rest {
+        [first, ..] if *first != SYN[0] => false,
+        [_, second, ..] => *second == SYN[1],
+        [_] => true, // a lone first byte
         [] => false,
-        [first] => *first == SYN[0],
-        [first, second, ..] => *first == SYN[0] && *second == SYN[1],
     }
 }
 
@@ -63,6 +65,7 @@ pub fn total_length(len: usize) -> usize
 }
 
 // Whether a header with this TYPE and LEN is allowed.
+#[tactic(auto, unfolding(crate::specs::Bytes::allowed))]
 pub fn is_allowed(kind: u8, len: usize) -> bool
     ensures { result ≡ allowed kind len }
 {
@@ -74,6 +77,7 @@ pub fn is_allowed(kind: u8, len: usize) -> bool
 }
 
 // Whether a message with this header may be written: it is allowed, and a NAK has SEQ 0.
+#[tactic(auto, unfolding(crate::specs::Bytes::writable))]
 pub fn is_writable(kind: u8, len: usize, seq: Seq) -> bool
     ensures { result ≡ writable kind len seq.0 }
 {

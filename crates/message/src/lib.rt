@@ -4,6 +4,10 @@
 
 pub mod header; // what a header may say
 
+ghost use Rattle.std.specs.Prelude.{◌≡◌};
+ghost use Rattle.message.specs.Items.{rule_of};
+ghost use Rattle.message.specs.Promises.{item_of};
+
 // A sequence ID: 8 bits, apart from the 16-bit request IDs.
 #[derive(Clone, Copy, PartialEq, Eq)]
 pub struct Seq(pub u8);
@@ -22,6 +26,21 @@ pub enum Item {
     Forbidden,
     DamagedPayload,
     Message { kind: u8, seq: Seq, len: usize },
+}
+
+impl Item {
+    // The number of the rule that decides it.
+    // Ruled out: 4 for a damaged payload, and one number for two items.
+    pub fn rule(self) -> u8
+        ensures { result ≡ rule_of (item_of self) }
+    {
+        match self {
+            Item::DamagedHeader => 2,
+            Item::Forbidden => 3,
+            Item::DamagedPayload => 5,
+            Item::Message { .. } => 6,
+        }
+    }
 }
 
 // The first item of some bytes, and how many of them are removed with it.

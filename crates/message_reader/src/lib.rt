@@ -43,12 +43,8 @@ pub fn payload(bytes: &[u8], reading: Reading) -> &[u8]
 fn count_dropped(bytes: &[u8]) -> usize
     ensures { result ≡ dropped bytes.now }
 {
-    for i in 0..bytes.len() {
-        if syn_stands(&bytes[i..]) {
-            return i;
-        }
-    }
-    bytes.len()
+    let stops = (0..bytes.len()).find(|i| syn_stands(&bytes[*i..]));
+    stops.unwrap_or(bytes.len())
 }
 
 // Rules 1 to 6, on what is left after dropping.

@@ -1,12 +1,9 @@
 -- `checksum_probe::with_byte` meets its contract. The loop's invariant: the register, with the bits at the places that are left, gives the
 -- register after all.
-use mathlib.Core.List.{map}
 use mathlib.Core.Path.{◌≡◌}
-use lib.ListN.{drop}
 use Rattle.checksum.specs.Checksum.{with_bits, bits_of}
-use Rattle.checksum.proofs.Turns.{places, bit_at}
+use Rattle.checksum.proofs.Turns.{low_bits}
 use Rattle.checksum_probe.proofs.with_byte.Given as goal
 
 abbrev pub invariant-loop-place : goal.invariant-loop-place
-invariant-loop-place l =
-    with_bits l.register (map (bit_at l.byte) (drop l.place-index places)) ≡ with_bits l.fn.register (bits_of l.byte)
+invariant-loop-place l = with_bits l.register (low_bits l.byte l.place) ≡ with_bits l.fn.register (bits_of l.byte)

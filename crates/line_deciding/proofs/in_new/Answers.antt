@@ -37,6 +37,3 @@ returns-in_default c =
     gives_more _ [] new _ h (rw rest at c.all_held.ensures)
     (ap (take (length (drop dropped new))) (rw rest at c.put_at.ensures)
     ∙ front_placed (drop dropped new) a.array.now (omega (arith, undecided_left new h)))
-
-pub item_in_new-requires : goal.item_in_new-requires
-item_in_new-requires c = sym (rw c.in-Some.is at c.read-reading.ensures)

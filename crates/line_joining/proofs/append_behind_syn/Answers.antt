@@ -7,7 +7,7 @@ use lib.ListN.{length, take, drop, length-drop}
 use lib.Seq.{length-take-le, drop-append-le, drop-append-add, drop-drop}
 use Rattle.message.specs.Writing.{placed}
 use Rattle.message.proofs.Buffer.{lent_from, tail, neighbours_front}
-use Rattle.line.proofs.Moving.{drop_take}
+use Rattle.std.proofs.lemmas.List.{drop-take}
 use Rattle.line_joining.proofs.append_behind_syn.Goals as goal
 
 module _ (from kept : ℕ) (m l : List ℕ) (within : from + kept ≤ length l) where
@@ -29,7 +29,7 @@ module _ (from kept : ℕ) (m l : List ℕ) (within : from + kept ≤ length l) 
   behind-syn some fits first second =
       let sum : 2 + (kept - 2) ≡ kept = omega arith in
       let part : drop 2 (take kept (drop from l)) ≡ take (kept - 2) (drop (from + 2) l) =
-      rw (sum, drop-drop 2 from l) at (drop_take 2 (kept - 2) (drop from l)) in
+      rw (sum, drop-drop 2 from l) at (drop-take 2 (kept - 2) (drop from l)) in
       let count : length (take (kept - 2) (drop (from + 2) l)) ≡ kept - 2 =
       length-take-le (kept - 2) (drop (from + 2) l) (rw (length-drop (from + 2) l) (omega arith)) in
       rw (drop-append-le 2 (take kept (drop from l)) m (omega (arith, size)), part, second, first)

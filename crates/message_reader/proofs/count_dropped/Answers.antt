@@ -1,38 +1,27 @@
--- `message_reader::count_dropped` meets its contract. The invariant: what is dropped of the whole is what was passed and what is
--- dropped of the rest.
-use Prim.Native.Nat.{◌<◌, ◌+◌, ℕ}
-use mathlib.Core.Bool.{true, false}
-use mathlib.Core.List.{List}
-use mathlib.Core.Path.{◌≡◌, sym, ◌∙◌}
-use native.Mathlib.Omega.{arith}
-use lib.ListN.{length, drop, length-drop}
-use lib.Seq.{drop-drop}
+-- `message_reader::count_dropped` meets its contract: what is dropped is what stands before the first place at which SYN stands.
+use Rattle.std.proofs.Common.{rules, arith, ℕ, ◌≡◌, ◌≤◌, ◌<◌, true, false, List, Option, Some, None, length, ◌∙◌}
+use Rattle.std.specs.Prelude.{MatchOption}
+use Rattle.std.specs.Option.{unwrap_or}
+use Rattle.std.proofs.lemmas.Iterator.{first_from_Range}
 use Rattle.message.specs.Items.{stands, dropped}
 use Rattle.message.proofs.Buffer.{lent_from, tail}
-use Rattle.message.proofs.Dropping.{dropped_none, dropped_here, dropped_next}
+use Rattle.message.proofs.Dropping.{dropped_before}
 use Rattle.message_reader.proofs.count_dropped.Goals as goal
 
--- here SYN stands
-here : (i : ℕ) (b : List ℕ) → stands (lent_from i b) ≡ true → dropped b ≡ i + dropped (drop i b) → i ≡ dropped b
-here i b h inv = omega (arith, inv, dropped_here (drop i b) (rw (tail i b) at h))
-
--- a byte that does not stand there goes
-step : (i : ℕ) (b : List ℕ) → i < length b → stands (lent_from i b) ≡ false → dropped b ≡ i + dropped (drop i b)
-    → dropped b ≡ i + 1 + dropped (drop (i + 1) b)
-step i b more h inv =
-    let next = dropped_next (drop i b) (rw (length-drop i b) (omega arith)) (rw (tail i b) at h) in
-    let one : dropped (drop 1 (drop i b)) ≡ dropped (drop (i + 1) b) = rw (drop-drop 1 i b) in
-    omega (arith, inv, next, one)
-
-pub returns-then-syn_stands : goal.returns-then-syn_stands
-returns-then-syn_stands c =
-    here c.loop-i.i c.args.bytes.now (sym c.syn_stands.ensures ∙ c.if-syn_stands.true) c.loop-i.invariant
-
-pub loop-i-preserved : goal.loop-i-preserved
-loop-i-preserved c =
-    step c.loop-i.i c.args.bytes.now (omega arith) (sym c.syn_stands.ensures ∙ c.if-syn_stands.false) c.loop-i.invariant
+-- the place found, or the end
+found_at : (xs : List ℕ) (o : Option ℕ)
+    → MatchOption o ((k : ℕ) → 0 ≤ k → k < length xs → stands (lent_from k xs) ≡ false)
+    (λ i. (0 ≤ i) × (i < length xs) × (stands (lent_from i xs) ≡ true) × ((k : ℕ) → 0 ≤ k → k < i → stands (lent_from k xs) ≡ false))
+    → unwrap_or o (length xs) ≡ dropped xs
+found_at xs None nowhere =
+    dropped_before xs (length xs) (omega arith) (λ less. absurd (omega arith)) (λ k less. rw (tail k xs) at (nowhere k (omega arith) less))
+found_at xs (Some i) (low, less, here, before) =
+    dropped_before xs i (omega arith) (λ within. rw (tail i xs) at here) (λ k under. rw (tail k xs) at (before k (omega arith) under))
 
 pub returns : goal.returns
 returns c =
     let b = c.args.bytes.now in
-    omega (arith, c.loop-i.invariant, dropped_none (drop c.loop-i.i b) (rw (length-drop c.loop-i.i b) (omega arith)))
+    c.unwrap_or.ensures
+    ∙ found_at b c.find-stops.result
+    (first_from_Range _ _ _ _ (λ k. stands (lent_from k b) ≡ true) (λ k. stands (lent_from k b) ≡ false) c.find-stops.ensures.ran
+    (λ x q k. search rules) (λ x q k. search rules))

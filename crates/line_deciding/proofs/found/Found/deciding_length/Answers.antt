@@ -1,4 +1,4 @@
--- `line_deciding::deciding_length` meets its contract: of each item, the bytes that decide it.
+-- `line_deciding::found::Found::deciding_length` meets its contract: of each item, the bytes that decide it.
 use Prim.Native.Nat.{◌+◌}
 use mathlib.Core.Logic.{⊎_elim}
 use mathlib.Core.Path.{sym}
@@ -9,7 +9,7 @@ use Rattle.message.proofs.Found.{scan_within, message_at}
 use Rattle.line.proofs.Gives.{ends}
 use Rattle.line.proofs.Reach.{reach_within}
 use Rattle.line.proofs.Taking.{taken_new}
-use Rattle.line_deciding.proofs.deciding_length.Goals as goal
+use Rattle.line_deciding.proofs.found.Found.deciding_length.Goals as goal
 
 pub overflow_add-result : goal.overflow_add-result
 overflow_add-result c =
@@ -31,13 +31,13 @@ pub len_in-requires : goal.len_in-requires
 len_in-requires c =
     let a = c.args in
     let h = rw c.in-DamagedPayload.is at c.requires in
-    rw (tail a.dropped a.new.now, length-drop a.dropped a.new.now) (omega (arith, reach_within a.new.now h))
+    rw (tail a.self.dropped a.new.now, length-drop a.self.dropped a.new.now) (omega (arith, reach_within a.new.now h))
 
 pub overflow_add-result-in-DamagedPayload : goal.overflow_add-result-in-DamagedPayload
 overflow_add-result-in-DamagedPayload c =
     let a = c.args in
     let h = rw c.in-DamagedPayload.is at c.requires in
-    let len = rw (tail a.dropped a.new.now) at c.len_in.ensures.0 in
+    let len = rw (tail a.self.dropped a.new.now) at c.len_in.ensures.0 in
     omega (arith, reach_within a.new.now h, c.total_length.ensures, len)
 
 pub overflow_add-result-in-Message : goal.overflow_add-result-in-Message
@@ -49,20 +49,20 @@ pub returns-in-DamagedHeader : goal.returns-in-DamagedHeader
 returns-in-DamagedHeader c =
     let a = c.args in
     let new = a.new.now in
-    ends a.first.item a.dropped a.first.removed _ new c.requires
+    ends a.self.first.item a.self.dropped a.self.first.removed _ new c.requires
     (⊎_elim (λ e. sym (taken_new new (rw e at c.requires))) (λ e. sym (taken_new new (rw e at c.requires))) c.in-DamagedHeader.is)
 
 pub returns-in-DamagedPayload : goal.returns-in-DamagedPayload
 returns-in-DamagedPayload c =
     let a = c.args in
     let h = rw c.in-DamagedPayload.is at c.requires in
-    let len = rw (tail a.dropped a.new.now) at c.len_in.ensures.0 in
-    ends a.first.item a.dropped a.first.removed (a.dropped + c.total_length.result) a.new.now c.requires
+    let len = rw (tail a.self.dropped a.new.now) at c.len_in.ensures.0 in
+    ends a.self.first.item a.self.dropped a.self.first.removed (a.self.dropped + c.total_length.result) a.new.now c.requires
     (omega (arith, taken_new a.new.now h, c.total_length.ensures, len))
 
 pub returns-in-Message : goal.returns-in-Message
 returns-in-Message c =
     let a = c.args in
     let h = rw c.in-Message.is at c.requires in
-    ends a.first.item a.dropped a.first.removed (a.dropped + a.first.removed) a.new.now c.requires
+    ends a.self.first.item a.self.dropped a.self.first.removed (a.self.dropped + a.self.first.removed) a.new.now c.requires
     (omega (arith, taken_new a.new.now h, (message_at a.new.now h).removed))
