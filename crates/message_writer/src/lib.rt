@@ -3,7 +3,7 @@
 
 ghost use Rattle.std.specs.Prelude.{◌≡◌, not, ◌+◌, ◌≤◌, ltb, length, take};
 ghost use Rattle.checksum.specs.Checksum.{checksum_of};
-ghost use Rattle.message.specs.Bytes.{le16, fields, header, header_length, payload_at, message, total, max_len};
+ghost use Rattle.message.specs.Bytes.{le16, fields, header as header_of, header_length, payload_at, message, total, max_len};
 ghost use Rattle.message.specs.Writing.{written, placed};
 ghost use Rattle.message.specs.Promises.{answer_of, Wrote};
 
@@ -11,6 +11,15 @@ use message::header::{
     FIELDS_LENGTH, HEADER_LENGTH, OVERHEAD, SYN, SYN_LENGTH, is_writable, total_length,
 };
 use message::{Seq, WriteError};
+
+// What a header says of a message that is not too long: its TYPE, its LEN and its SEQ.
+#[derive(Clone, Copy)]
+struct Header {
+    kind: u8,
+    len: usize,
+    seq: Seq,
+    ghost short: { len ≤ max_len },
+}
 
 // Places a message at a place of the buffer, and answers its length. All other bytes stay; a refusal leaves every byte.
 // Stays: place, TYPE, SEQ and payload one by one and no struct of them, as the C function `fizrahum_write` has them and hands them on.
@@ -25,8 +34,9 @@ pub fn write(
     ensures { Wrote result place kind seq.0 (length payload.now) payload.now
         buffer.old buffer.new }
 {
-    let length = answer_to(buffer.len(), place, kind, seq, payload.len())?;
-    put(buffer, place, kind, seq, payload);
+    let len = payload.len();
+    let length = answer_to(buffer.len(), place, kind, seq, len)?;
+    put(buffer, place, Header { kind, len, seq }, payload);
     Ok(length)
 }
 
@@ -43,27 +53,27 @@ pub fn write_around(
         buffer.old buffer.new }
 {
     let length = answer_to(buffer.len(), place, kind, seq, len)?;
-    put_around(buffer, place, kind, seq, len);
+    put_around(buffer, place, Header { kind, len, seq });
     Ok(length)
 }
 
 // The message at its place, where it fits: the payload is copied to its place, and the rest put around it.
-fn put(buffer: &mut [u8], place: usize, kind: u8, seq: Seq, payload: &[u8])
-    requires { (length payload.now ≤ max_len) × (place + total (length payload.now) ≤ length buffer.old) }
-    ensures { buffer.new ≡ placed place (message kind seq.0 payload.now) buffer.old }
+fn put(buffer: &mut [u8], place: usize, header: Header, payload: &[u8])
+    requires { (header.len ≡ length payload.now) × (place + total header.len ≤ length buffer.old) }
+    ensures { buffer.new ≡ placed place (message header.kind header.seq.0 payload.now) buffer.old }
 {
-    let len = byte_slices::copy(payload, &mut buffer[place + HEADER_LENGTH..]);
-    put_around(buffer, place, kind, seq, len);
+    byte_slices::copy(payload, &mut buffer[place + HEADER_LENGTH..]);
+    put_around(buffer, place, header);
 }
 
 // The header and the payload's checksum around a payload of len bytes that stands there.
-fn put_around(buffer: &mut [u8], place: usize, kind: u8, seq: Seq, len: usize)
-    requires { (len ≤ max_len) × (place + total len ≤ length buffer.old) }
+fn put_around(buffer: &mut [u8], place: usize, header: Header)
+    requires { place + total header.len ≤ length buffer.old }
     ensures { buffer.new
-        ≡ placed place (message kind seq.0 (payload_at place len buffer.old)) buffer.old }
+        ≡ placed place (message header.kind header.seq.0 (payload_at place header.len buffer.old)) buffer.old }
 {
-    write_header(&mut buffer[place..], kind, len, seq);
-    write_checksum(&mut buffer[place + HEADER_LENGTH..], len);
+    write_header(&mut buffer[place..], header);
+    write_checksum(&mut buffer[place + HEADER_LENGTH..], header.len);
 }
 
 // The message's length, with the refusals in the table's order.
@@ -91,21 +101,22 @@ fn has_room(size: usize, place: usize, len: usize) -> bool
 }
 
 // The header, at the front of the buffer.
-fn write_header(buffer: &mut [u8], kind: u8, len: usize, seq: Seq)
-    requires { (header_length ≤ length buffer.old) × (len ≤ max_len) }
-    ensures { buffer.new ≡ placed 0 (header kind len seq.0) buffer.old }
+fn write_header(buffer: &mut [u8], header: Header)
+    requires { header_length ≤ length buffer.old }
+    ensures { buffer.new ≡ placed 0 (header_of header.kind header.len header.seq.0) buffer.old }
 {
     byte_slices::copy(&SYN, buffer);
-    write_fields(&mut buffer[SYN_LENGTH..], kind, len, seq);
+    write_fields(&mut buffer[SYN_LENGTH..], header);
     write_checksum(&mut buffer[SYN_LENGTH..], FIELDS_LENGTH);
 }
 
 // TYPE, LEN and SEQ, at the front of the buffer.
 #[tactic(auto, using(message::proofs::Buffer::copied_front, message::proofs::Headers::le16_bytes), unfolding(message::specs::Bytes::fields, message::specs::Bytes::le16))]
-fn write_fields(buffer: &mut [u8], kind: u8, len: usize, seq: Seq)
-    requires { (4 ≤ length buffer.old) × (len ≤ max_len) }
-    ensures { buffer.new ≡ placed 0 (fields kind len seq.0) buffer.old }
+fn write_fields(buffer: &mut [u8], header: Header)
+    requires { 4 ≤ length buffer.old }
+    ensures { buffer.new ≡ placed 0 (fields header.kind header.len header.seq.0) buffer.old }
 {
+    let Header { kind, len, seq } = header;
     let [low, high] = (len as u16).to_le_bytes();
     byte_slices::copy(&[kind, low, high, seq.0], buffer);
 }

@@ -37,5 +37,5 @@ covered t q a p l fits =
 pub returns : goal.returns
 returns c =
     let a = c.args in
-    let copy = copied (a.place + header_length) a.payload.now a.buffer.now _ (omega arith) c.copy-len.ensures.whole in
-    rw (c.copy-len.ensures.count, copy) at c.put_around.ensures ∙ covered a.kind a.seq.0 a.place a.payload.now a.buffer.now (omega arith)
+    let copy = copied (a.place + header_length) a.payload.now a.buffer.now _ (omega arith) c.copy.ensures.whole in
+    rw (c.requires.0, copy) at c.put_around.ensures ∙ covered a.header.kind a.header.seq.0 a.place a.payload.now a.buffer.now (omega arith)

@@ -30,5 +30,5 @@ left t q a n l x y fits first second =
 pub returns : goal.returns
 returns c =
     let a = c.args in
-    left a.kind a.seq.0 a.place a.len a.buffer.now _ _ (omega arith)
+    left a.header.kind a.header.seq.0 a.place a.header.len a.buffer.now _ _ (omega arith)
     c.write_header.ensures c.write_checksum.ensures

@@ -43,7 +43,7 @@ unfolding header
 returns c =
     let fs = c in
     let copied = c in
-    let four = length_fields copied.args.kind _ _ in
+    let four = length_fields copied.args.header.kind _ _ in
     with_checksum _ _ _ _ four (omega arith)
     (with_fields _ _ _ _ four (omega arith) copied.copy.ensures.whole fs.write_fields.ensures)
     c.write_checksum.ensures
