@@ -41,6 +41,7 @@ pub fn join(array: &mut [u8; HELD_MAX], held: Part, new: &[u8]) -> Decision
 }
 
 // The start of a header is held.
+#[tactic(auto, using(line::proofs::Start::start_waits, line::proofs::Start::header_waits))]
 fn after_start(array: &mut [u8; HELD_MAX], held: Part, new: &[u8]) -> Decision
     requires { (0 < held.count) × (held.count < header_length) × (scan (bytes_of held array.old) ≡ undecided 0)
         × (breaks held.count new.now ≡ false) }

@@ -3,7 +3,7 @@ use Prim.Native.Nat.{◌-◌}
 use mathlib.Core.Path.{sym, ◌∙◌}
 use native.Mathlib.Omega.{arith}
 use lib.ListN.{take, drop}
-use Rattle.line.proofs.Dropped.{drops, all_dropped, waits, receives}
+use Rattle.line.proofs.Dropped.{drops, receives}
 use Rattle.line.proofs.Moving.{length_part}
 use Rattle.line.proofs.Start.{decides_same, broken}
 use Rattle.line_deciding.proofs.without_dropped.Goals as goal
