@@ -6,7 +6,6 @@ use mathlib.Core.Path.{◌≡◌, refl, ap}
 use Rattle.std.specs.Prelude.{Some, None}
 use Rattle.std.specs.List.{position}
 use Rattle.link.specs.Frames as link
-use Rattle.link.specs.Frames.{with_mark}
 use Rattle.ledger.specs.Parts as ledger
 use Rattle.ledger.specs.Parts.{Ledger, Search, oldest}
 use Rattle.ledger.specs.Receiving.{acknowledged_in, on_ack}
