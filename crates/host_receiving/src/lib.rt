@@ -20,6 +20,7 @@ use message::Item;
 use refusals::check_receive;
 
 // What `host::receive` does and promises.
+#[tactic(auto, using(host_answers::proofs::Calls::sound_of, host_answers::proofs::Calls::meets, crate::proofs::Rooms::roomy))]
 pub fn receive_in(
     e: Endpoint,
     store: &mut [u8; STORE_LENGTH],

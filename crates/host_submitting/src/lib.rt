@@ -18,6 +18,7 @@ use live_ids::{first_free, id_after};
 use refusals::check_submit;
 
 // What `host::submit` does and promises.
+#[tactic(auto, using(host_answers::proofs::Calls::sound_of, crate::proofs::Joining::room_of))]
 pub fn submit_in(
     e: Endpoint,
     store: &mut [u8; STORE_LENGTH],
