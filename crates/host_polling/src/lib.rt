@@ -75,6 +75,7 @@ fn end(accepted: &Accepted, store: &mut [u8; STORE_LENGTH], row: usize, cause: C
 }
 
 // Nothing is due.
+#[tactic(auto, using(refinement::proofs::Times::none_late))]
 fn quiet(accepted: &Accepted) -> Polled
     ensures { (store output : List ℕ) → Does (polled_as (ledger_of accepted.now.e store)
         (step4 (ledger_of accepted.now.e store) accepted.now.clock) output accepted.now.clock)

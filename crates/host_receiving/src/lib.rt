@@ -40,6 +40,7 @@ pub fn receive_in(
 
 // A receive that the table does not refuse.
 // Stays: the clause `total 0 ≤ length reply.old`, as for `frames::put_ack`.
+#[tactic(auto, using(refinement::proofs::Sound::held_of))]
 fn accept(
     accepted: &Accepted,
     store: &mut [u8; STORE_LENGTH],

@@ -36,6 +36,7 @@ pub fn submit_in(
 }
 
 // A submit that the table does not refuse: "The request joins as queued."
+// Stays: the clause `length «data».now ≤ max_data`, as for `frames::put_command`.
 fn accept(
     accepted: &Accepted,
     store: &mut [u8; STORE_LENGTH],
