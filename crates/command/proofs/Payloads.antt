@@ -1,14 +1,14 @@
 -- The bytes of a command and what is read from them, each way: by computing the list, and byte by byte.
 use Prim.Native.Nat.{ℕ, ◌+◌, ◌≤◌, ◌<◌}
 use mathlib.Core.Bool.{true}
-use mathlib.Core.List.{List, ◌∷◌}
-use mathlib.Core.Path.{◌≡◌, refl, sym}
+use mathlib.Core.List.{List, [], ◌∷◌, ◌++◌}
+use mathlib.Core.Path.{◌≡◌, refl, sym, ap, ◌∙◌}
 use native.Mathlib.Omega.{arith}
 use lib.Dec.{eqb, leb}
 use lib.ListN.{length, get_or, take, drop}
 use lib.Seq.{drop-cons, take_at}
 use borrow.Author.Tests.{le-leb, leb-true, eqb-true}
-use Rattle.message.proofs.Buffer.{after_placed}
+use Rattle.message.proofs.Buffer.{after_placed, lent_from, given_back, length_placed, copied, neighbours_front}
 use Rattle.message.proofs.Headers.{both}
 use Rattle.message.proofs.WrittenRead.{le16_from}
 use Rattle.message.specs.Bytes.{le16}
@@ -54,6 +54,26 @@ pub written_rest : {n i : ℕ} {f : Fields} {d entry exit : List ℕ} → head_l
 written_rest {n} {i} {f} {d} {entry} {exit} room wrote =
     let long : n ≡ 0 + length (payload f i d) = omega (arith, length_payload f i d, wrote.answers) in
     rw (wrote.leaves, long) (after_placed 0 (payload f i d) entry (omega (arith, length_payload f i d)))
+
+-- what the writer leaves: its first eight bytes at the front, and the data copied right behind them
+length_head : (f : Fields) (i : ℕ) → length (payload f i []) ≡ head_length
+unfolding payload le16
+length_head f i = refl
+
+with_data : (f : Fields) (i : ℕ) (d : List ℕ) → payload f i [] ++ d ≡ payload f i d
+unfolding payload le16
+with_data f i d = refl
+
+pub head_then_data : (f : Fields) (i n : ℕ) (d l head x : List ℕ) → head_length + length d ≤ length l → head ≡ placed 0 (payload f i []) l
+    → n ≡ length d → x ≡ take (length d) d ++ drop (length d) (lent_from head_length head)
+    → Wrote (head_length + n) f i d l (given_back head_length head x)
+head_then_data f i n d l head x fits first count second =
+    let eight = length_head f i in
+    let same : length head ≡ length l = ap length first ∙ length_placed 0 (payload f i []) l (omega arith) in
+    let there : given_back head_length head x ≡ placed head_length d head = copied head_length d head x (omega arith) second in
+    let joined : placed head_length d (placed 0 (payload f i []) l) ≡ placed 0 (payload f i d) l =
+    rw (length_head f i, with_data f i d) at (neighbours_front (payload f i []) d l (omega arith)) in
+    record { answers = rw count; leaves = there ∙ rw first joined }
 
 -- eight bytes in front of the rest
 eight : (xs : List ℕ) → head_length ≤ length xs

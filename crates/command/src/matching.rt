@@ -8,6 +8,7 @@ use crate::Fields;
 impl Fields {
     // Whether a command with the other fields answers a request with these. The request ID is compared by the caller.
     // Ruled out: TID and SID compared as they stand, and a response matched by its request ID alone.
+    #[tactic(auto, unfolding(crate::specs::Payload::answers))]
     pub fn is_answered_by(self, other: Fields) -> bool
         ensures { result ≡ answers (fields_of self) (fields_of other) }
     {

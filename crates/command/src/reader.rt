@@ -7,6 +7,7 @@ use crate::{COMMAND_MARK, Fields, HEAD_LENGTH, Head, RequestId};
 
 // The command of a payload, without its data, where it is one.
 // Ruled out: a command of seven bytes, and CID taken from the request ID.
+#[tactic(auto, unfolding(crate::specs::Promises::command_in, crate::specs::Payload::is_command))]
 pub fn read(payload: &[u8]) -> Option<Head>
     ensures { command_of result ≡ command_in payload.now }
 {

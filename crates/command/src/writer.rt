@@ -18,6 +18,7 @@ pub fn is_too_long(len: usize) -> bool
 // with room for it: it has refused data that is too long.
 // Ruled out: TID and SID in each other's place, RQID with its high byte first, data one byte late or over CID, and a byte behind the
 // command touched.
+#[tactic(auto, using(crate::proofs::Payloads::head_then_data))]
 pub fn write(part: &mut [u8], head: Head, data: &[u8]) -> usize
     requires { head_length + length «data».now ≤ length part.old }
     ensures { Wrote result (fields_of head.fields) head.id.0 «data».now part.old part.new }
@@ -28,6 +29,7 @@ pub fn write(part: &mut [u8], head: Head, data: &[u8]) -> usize
 }
 
 // The bytes before the data, at the front of the part: a command without any.
+#[tactic(auto, using(message::proofs::Buffer::copied_front), unfolding(crate::specs::Payload::payload, message::specs::Bytes::le16))]
 fn write_head(part: &mut [u8], head: Head)
     requires { head_length ≤ length part.old }
     ensures { part.new ≡ placed 0 (payload (fields_of head.fields) head.id.0 []) part.old }

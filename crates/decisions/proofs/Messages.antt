@@ -2,7 +2,7 @@
 use Prim.Native.Nat.{ℕ}
 use mathlib.Core.Bool.{true, false}
 use mathlib.Core.List.{List}
-use mathlib.Core.Path.{◌≡◌, refl, sym, ap}
+use mathlib.Core.Path.{◌≡◌, refl, ap}
 use lib.ListN.{length}
 use native.Mathlib.Omega.{arith}
 use borrow.Author.Tests.{ne_eqb}
@@ -25,6 +25,7 @@ use Rattle.live_changes.specs.declared.Change.TheVariants.{Turn, End}
 use Rattle.decisions_verdict.specs.Verdicts.{effect_of, Judges}
 use Rattle.decisions_verdict.specs.declared.Effect.{Effect}
 use Rattle.decisions_verdict.specs.declared.Verdict.{Verdict}
+use Rattle.decisions_verdict.proofs.Laws.{with_seen}
 
 -- a change that names a row in use names one of the count
 names_in_count : (live : Requests) (change : Option Change) → Names change (length (rows_of live)) → Names change live.count
@@ -32,14 +33,9 @@ names_in_count live None named = tt
 names_in_count live (Some (Turn row state)) named = omega (arith, length-take {A = Request})
 names_in_count live (Some (End row cause)) named = omega (arith, length-take {A = Request})
 
-
 named : (live : Requests) (rows : List Request) → rows ≡ rows_of live → {change next : Option Change} → next ≡ change → Names change (length rows)
     → Names next live.count
 named live rows in_use {change} same here = rw same (names_in_count live change (rw in_use at here))
-
--- the verdict with an effect, after which a SEQ was seen
-abbrev pub with_seen : Effect → Seen → Verdict
-with_seen f seen = record { word = f.word; change = f.change; seen = seen }
 
 -- what data do, of an endpoint with these rows in use
 abbrev pub DataDo : Effect → Endpoint → (rows : List Request) (payload : List ℕ) → Type 0

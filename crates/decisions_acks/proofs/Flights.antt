@@ -2,23 +2,20 @@
 use Prim.Native.Nat.{ℕ}
 use mathlib.Core.Bool.{Bool, true, false}
 use mathlib.Core.List.{List}
-use mathlib.Core.Path.{◌≡◌, refl, sym, ap, ◌∙◌}
+use mathlib.Core.Path.{◌≡◌, refl, ap}
 use Rattle.std.specs.Prelude.{Some, None}
 use Rattle.std.specs.List.{position}
 use Rattle.link.specs.Frames as link
-use Rattle.link.specs.Frames.{with_mark}
-use Rattle.link.specs.Promises.{frame_of}
-use Rattle.link.specs.declared.frame.Frame.{Frame}
 use Rattle.ledger.specs.Parts as ledger
 use Rattle.ledger.specs.Parts.{Ledger, Search, oldest}
-use Rattle.ledger.specs.Receiving.{flies, acknowledged_in, on_ack, on_nak}
+use Rattle.ledger.specs.Receiving.{acknowledged_in, on_ack}
 use Rattle.ledger.specs.declared.Cause.TheVariants.{Acknowledged}
 use Rattle.ledger.specs.declared.Word.TheVariants as word
 use Rattle.endpoint.specs.Endpoint.{state_of, requests_from}
 use Rattle.endpoint.specs.Places.{at}
 use Rattle.endpoint.specs.declared.Request.{Request}
-use Rattle.endpoint.specs.declared.State.TheVariants.{InFlight, Waiting}
-use Rattle.live_search.specs.Searching.{is_shown, IsFlight}
+use Rattle.endpoint.specs.declared.State.TheVariants.{Waiting}
+use Rattle.live_search.specs.Searching.{is_shown}
 use Rattle.live_search.proofs.Searched.{Finds, row_at, none_found, one_found, found_row}
 use Rattle.live_changes.specs.declared.Change.TheVariants as change
 use Rattle.decisions_verdict.specs.Verdicts.{effect_of}

@@ -1,4 +1,3 @@
 pub mod Rows
 pub mod Listed
-pub mod OneRequest
 pub mod Order

@@ -5,6 +5,8 @@ use mathlib.Core.List.{List, [], ◌∷◌}
 use mathlib.Core.Path.{◌≡◌, refl, sym}
 use lib.Dec.{leb, ltb}
 use borrow.Author.Tests.{ltb-false, le-ltb, leb-true, le-leb, not-false}
+use Rattle.std.proofs.lemmas.Bool.{or_parts}
+pub use Rattle.std.proofs.lemmas.Bool.{or_parts as neither}
 use Rattle.line.specs.Receiving.{held_max}
 use Rattle.command.specs.Payload.{max_data}
 use Rattle.link.specs.Frames.{max_transmissions}
@@ -31,11 +33,6 @@ pub record Facts (e : Endpoint) : Type 0 where
   pub wants : some_of (λ q. waits_for_nothing q.wanted q.state) (bare_of (rows_of e.live)) ≡ false
   pub times : some_of (λ q. is_late e.clock q.state) (bare_of (rows_of e.live)) ≡ false
   pub held : e.held ≤ held_max
-
--- neither of two tests
-pub neither : (a b : Bool) → a || b ≡ false → (a ≡ false) × (b ≡ false)
-neither true b h = absurd (true≢false h)
-neither false b h = (refl, h)
 
 -- two tests that are false together are the same
 same : (a b : Bool) → (a ≡ false → b ≡ false) → (b ≡ false → a ≡ false) → a ≡ b
@@ -67,16 +64,16 @@ facts {e} h =
     let rows = rows_of e.live in
     let live = bare_of rows in
     let r = e.reserved in
-    let a = neither (ltb reserved_max r) _ h in
-    let b = neither (ltb live_max e.live.count) _ a.1 in
-    let c = neither (some_of (λ q. is_outside r q.id) live || is_outside r e.next.0) _ b.1 in
-    let i = neither (some_of (λ q. is_outside r q.id) live) _ c.0 in
-    let d = neither (two_equal live) _ c.1 in
-    let f = neither (ltb 1 (flights live)) _ d.1 in
-    let o = neither (some_of (λ q. wrongly_often q.state) live) _ f.1 in
-    let s = neither (too_long rows) _ o.1 in
-    let w = neither (some_of (λ q. waits_for_nothing q.wanted q.state) live) _ s.1 in
-    let t = neither (some_of (λ q. is_late e.clock q.state) live) _ w.1 in
+    let a = or_parts (ltb reserved_max r) _ h in
+    let b = or_parts (ltb live_max e.live.count) _ a.1 in
+    let c = or_parts (some_of (λ q. is_outside r q.id) live || is_outside r e.next.0) _ b.1 in
+    let i = or_parts (some_of (λ q. is_outside r q.id) live) _ c.0 in
+    let d = or_parts (two_equal live) _ c.1 in
+    let f = or_parts (ltb 1 (flights live)) _ d.1 in
+    let o = or_parts (some_of (λ q. wrongly_often q.state) live) _ f.1 in
+    let s = or_parts (too_long rows) _ o.1 in
+    let w = or_parts (some_of (λ q. waits_for_nothing q.wanted q.state) live) _ s.1 in
+    let t = or_parts (some_of (λ q. is_late e.clock q.state) live) _ w.1 in
     record {
       reserved = ltb-false reserved_max r a.0;
       few = ltb-false live_max e.live.count b.0;
@@ -111,10 +108,10 @@ module _ (clock : ℕ) (wanted : Bool) where
   state_clear queued h = (refl, refl, refl)
   state_clear (in_flight f) h =
       let t = f.transmissions in
-      let parts = neither (ltb t 1 || ltb max_transmissions t) (ltb clock f.sent) h in
-      let sent = neither (ltb t 1) (ltb max_transmissions t) parts.0 in
+      let parts = or_parts (ltb t 1 || ltb max_transmissions t) (ltb clock f.sent) h in
+      let sent = or_parts (ltb t 1) (ltb max_transmissions t) parts.0 in
       (rw (le-leb 1 t (ltb-false t 1 sent.0), le-leb t max_transmissions (ltb-false max_transmissions t sent.1)), refl, parts.1)
-  state_clear (waiting since) h = let parts = neither (not wanted) (ltb clock since) h in (refl, parts.0, parts.1)
+  state_clear (waiting since) h = let parts = or_parts (not wanted) (ltb clock since) h in (refl, parts.0, parts.1)
 
   state_good : (s : ledger.State) → wrongly_often s ≡ false → waits_for_nothing wanted s ≡ false → is_late clock s ≡ false
       → bad_state clock wanted s ≡ false
@@ -131,10 +128,10 @@ module _ (r clock : ℕ) where
   unfolding some_bad bad_request some_of two_equal too_long
   clear [] h = record { ids = refl; unequal = refl; often = refl; short = refl; wants = refl; times = refl }
   clear (q ∷ rows) h =
-      let parts = neither (bad_request r clock q) _ h in
-      let more = neither (is_live q.id.0 (bare_of rows)) _ parts.1 in
-      let own = neither (is_outside r q.id.0) _ parts.0 in
-      let rest = neither (ltb max_data q.len) _ own.1 in
+      let parts = or_parts (bad_request r clock q) _ h in
+      let more = or_parts (is_live q.id.0 (bare_of rows)) _ parts.1 in
+      let own = or_parts (is_outside r q.id.0) _ parts.0 in
+      let rest = or_parts (ltb max_data q.len) _ own.1 in
       let state = state_clear clock q.wanted (state_of q.state) rest.1 in
       let later = clear rows more.1 in
       record {
@@ -151,12 +148,12 @@ module _ (r clock : ℕ) where
   good [] h = refl
   good (q ∷ rows) h =
       let s = state_of q.state in
-      let id = neither (is_outside r q.id.0) _ h.ids in
-      let same = neither (is_live q.id.0 (bare_of rows)) _ h.unequal in
-      let often = neither (wrongly_often s) _ h.often in
-      let short = neither (ltb max_data q.len) _ h.short in
-      let wants = neither (waits_for_nothing q.wanted s) _ h.wants in
-      let time = neither (is_late clock s) _ h.times in
+      let id = or_parts (is_outside r q.id.0) _ h.ids in
+      let same = or_parts (is_live q.id.0 (bare_of rows)) _ h.unequal in
+      let often = or_parts (wrongly_often s) _ h.often in
+      let short = or_parts (ltb max_data q.len) _ h.short in
+      let wants = or_parts (waits_for_nothing q.wanted s) _ h.wants in
+      let time = or_parts (is_late clock s) _ h.times in
       let state = state_good clock q.wanted s often.0 wants.0 time.0 in
       let later : Clear r clock rows = record {
         ids = id.1;

@@ -15,8 +15,9 @@ use message::header::{ACK, DATA_SEQ, HEADER_LENGTH, NAK};
 // Puts the frame of a command at the front of the output, as DATA_SEQ, and answers its length. For the ends of the line, which lend
 // room for the longest message and have refused data that is too long.
 // Ruled out: another TYPE or SEQ, and a byte touched behind the frame.
-// Stays: the clause `total max_len ≤ length output.old` may not ask more; an array would, since a buffer of any length from 266 on is lent.
-// Stays: the clause `length «data».now ≤ max_data` may not ask more; a slice of at most so many bytes has no type that asks the same.
+// Stays: the clause `total max_len ≤ length output.old` may not ask more: callers lend a buffer of any length from 266 on, and an array
+// has one. `host_sending` and `host_polling`, which hand the buffer on, repeat it.
+// Stays: the clause `length «data».now ≤ max_data` may not ask more: callers hand in a slice, and a type around it is built by them first.
 pub fn put_command(output: &mut [u8], seq: Seq, head: Head, data: &[u8]) -> usize
     requires { (total max_len ≤ length output.old) × (length «data».now ≤ max_data) }
     ensures { Put result (message data_seq seq.0 (payload (fields_of head.fields) head.id.0 «data».now))
@@ -28,7 +29,7 @@ pub fn put_command(output: &mut [u8], seq: Seq, head: Head, data: &[u8]) -> usiz
 
 // Puts an ACK with this SEQ at the front of the reply, and answers its length. For the ends of the line, which lend room for it.
 // Ruled out: an ACK with another SEQ, and a reply of more than its ten bytes.
-// Stays: the clause `total 0 ≤ length reply.old` may not ask more; an array would, since a buffer of any length from ten on is lent.
+// Stays: the clause `total 0 ≤ length reply.old` may not ask more: callers lend a buffer of any length from ten on, and an array has one.
 pub fn put_ack(reply: &mut [u8], seq: Seq) -> usize
     requires { total 0 ≤ length reply.old }
     ensures { Put result (message ack seq.0 []) reply.old reply.new }
@@ -38,7 +39,7 @@ pub fn put_ack(reply: &mut [u8], seq: Seq) -> usize
 
 // Puts a NAK at the front of the reply ("A written NAK has SEQ 0"), and answers its length. For the ends of the line likewise.
 // Ruled out: a NAK with the SEQ of the damaged message, and an ACK in its place.
-// Stays: the clause `total 0 ≤ length reply.old`, as for `put_ack`.
+// Stays: the clause `total 0 ≤ length reply.old`, likewise.
 pub fn put_nak(reply: &mut [u8]) -> usize
     requires { total 0 ≤ length reply.old }
     ensures { Put result (message nak 0 []) reply.old reply.new }

@@ -14,7 +14,7 @@ ghost use Rattle.live_changes.specs.declared.Change.TheVariants.{Turn};
 
 use endpoint::{Request, Requests, STORE_LENGTH, State};
 use ledger::Cause;
-use rooms::{fill, move_up};
+use rooms::{fill, place_of};
 
 // What a call does to the live requests, if anything: the one in a row turns into another state, or it leaves for a cause.
 #[derive(Clone, Copy)]
@@ -33,6 +33,8 @@ pub struct Live {
 impl Live {
     // Carries out a change, if any. Asks for a row in use: a search has found it.
     // Ruled out: another request touched than the one named, and an ended request's data left to the next one.
+    // Stays: `row < count` as a clause, here and in the calls: a type of a row in use would hold the live requests beside the row, which
+    // the endpoint holds already, and each function would take both out of it.
     pub fn carry_out(self, store: &mut [u8; STORE_LENGTH], change: Option<Change>) -> Live
         requires { Names change self.requests.count }
         ensures { Becomes result.requests (changed change (live_of self.requests store.old)) store.old
@@ -56,22 +58,19 @@ impl Live {
         Live { requests }
     }
 
-    // The request in a row leaves: those after it move up, each with its data.
+    // The request in a row leaves: those after it move up, each with its room.
     fn without(self, store: &mut [u8; STORE_LENGTH], row: usize) -> Live
         requires { row < self.requests.count }
         ensures { Becomes result.requests
             (take row (live_of self.requests store.old) ++ after row (live_of self.requests store.old)) store.old
             store.new }
     {
-        let last = self.requests.count - 1;
-        let mut next = self.requests;
-        for i in row..last {
-            let q = next.rows[i + 1];
-            move_up(store, i, q.len);
-            next.rows[i] = q;
-        }
-        next.count = last;
-        Live { requests: next }
+        let mut requests = self.requests;
+        let count = requests.count;
+        requests.rows.copy_within(row + 1..count, row);
+        store.copy_within(place_of(row + 1)..place_of(count), place_of(row));
+        requests.count = count - 1;
+        Live { requests }
     }
 
     // A request joins behind the others, with its data.

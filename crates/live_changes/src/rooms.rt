@@ -1,9 +1,9 @@
 // The rooms of a store: the data of the request in row i stand in room i, behind the held bytes.
-ghost use Rattle.std.specs.Prelude.{◌≡◌, suc, ◌≤◌, ◌<◌, length};
+ghost use Rattle.std.specs.Prelude.{◌≡◌, ◌≤◌, ◌<◌, length};
 ghost use Rattle.message.specs.Writing.{placed};
 ghost use Rattle.command.specs.Payload.{max_data};
 ghost use Rattle.ledger.specs.Parts.{live_max};
-ghost use Rattle.endpoint.specs.Endpoint.{room_place, room_at};
+ghost use Rattle.endpoint.specs.Endpoint.{room_place};
 
 use command::MAX_DATA;
 use endpoint::STORE_LENGTH;
@@ -20,20 +20,11 @@ pub fn place_of(row: usize) -> usize
 }
 
 // Puts data into a room.
+// Stays: the length of the data as a clause, here and in `Live::joined`: a type around the slice would be made in the submit, which has
+// refused what is longer, and opened here, and no function between the two would be shorter.
 pub(crate) fn fill(store: &mut [u8; STORE_LENGTH], row: usize, data: &[u8])
     requires { (row < live_max) × (length «data».now ≤ max_data) }
     ensures { store.new ≡ placed (room_place row) «data».now store.old }
 {
     put_at(store, place_of(row), data);
-}
-
-// Moves the first len bytes of the next room into a room.
-pub(crate) fn move_up(store: &mut [u8; STORE_LENGTH], row: usize, len: usize)
-    requires { (suc row < live_max) × (len ≤ max_data) }
-    ensures { store.new ≡ placed (room_place row) (room_at store.old (suc row) len) store.old }
-{
-    let to = place_of(row);
-    let from = place_of(row + 1);
-    let (before, behind) = store.split_at_mut(from);
-    byte_slices::copy(&behind[..len], &mut before[to..]);
 }

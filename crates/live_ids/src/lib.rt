@@ -1,4 +1,5 @@
-// The ID that a submit issues (document 01, **Submit**: "The ID is the first one not live, from the next request ID on").
+// The ID that a submit issues (document 01, **Submit**: "The ID is the first one not live, from the next request ID on"). R is a number of
+// eight bits here: "R from 0 to 255".
 #![tactic(auto)]
 
 ghost use Rattle.std.specs.Prelude.{◌≡◌, length};

@@ -1,30 +1,23 @@
 -- What a search of the rows says of the ledger's "oldest": nobody, or the request in the row that was found, which is that row's.
 use Prim.Native.Nat.{ℕ, ◌+◌, ◌<◌}
 use mathlib.Core.Bool.{Bool}
-use mathlib.Core.List.{List, [], ◌∷◌}
-use mathlib.Core.Logic.{⊎_elim}
+use mathlib.Core.List.{List, []}
 use mathlib.Core.Option.{Option, some}
 use mathlib.Core.Path.{◌≡◌, ◌∙◌}
 use native.Mathlib.Omega.{arith}
 use lib.ListN.{length, take, get_or}
-use denote.Enum.Declared.{tag_of}
-use types.Run.{OneOf}
 use Rattle.std.specs.Prelude.{Some, None}
 use Rattle.std.specs.List.{position, position_or_len}
 use Rattle.command.specs.Promises.{fields_of}
 use Rattle.command.specs.declared.Fields.{Fields}
 use Rattle.command.specs.declared.RequestId.{RequestId}
-use Rattle.link.specs.Frames.{Frame}
 use Rattle.ledger.specs.Parts as ledger
 use Rattle.ledger.specs.Parts.{queued, in_flight, waiting, nobody, somebody, oldest}
 use Rattle.ledger.specs.Answers.{Command}
-use Rattle.ledger.specs.Receiving.{frame_in, provided, matches}
-use Rattle.endpoint.specs.Endpoint.{state_of, request_of, room_at, requests_from}
+use Rattle.ledger.specs.Receiving.{provided, matches}
+use Rattle.endpoint.specs.Endpoint.{request_of, room_at, requests_from}
 use Rattle.endpoint.specs.Places.{at, after}
-use Rattle.endpoint.specs.declared.State.{State}
-use Rattle.endpoint.specs.declared.State.TheVariants.{Queued, InFlight, Waiting}
 use Rattle.endpoint.specs.declared.Request.{Request}
-use Rattle.endpoint.specs.contracts.State.{the_type}
 use Rattle.endpoint.proofs.Rows.{blank_row}
 use Rattle.endpoint.proofs.Listed.{length_requests, requests_at}
 use Rattle.live_search.specs.Searching.{is_shown, command_with}

@@ -1,7 +1,6 @@
 -- What a search among the live requests looks for, by the ledger's own tests.
-use Rattle.std.specs.Prelude.{ℕ, ◌<◌, Bool, true, false, List, ◌≡◌, length, take, IfSome}
 use Rattle.std.specs.Prelude as std
-use Rattle.std.specs.Prelude.{Some, None}
+use Rattle.std.specs.Prelude.{ℕ, ◌<◌, Bool, true, false, Some, None, IfSome, List, ◌≡◌, length, take}
 use Rattle.std.proofs.Math.Option.{Option, none, some}
 use Rattle.link.specs.Frames as link
 use Rattle.link.specs.Promises.{frame_of}

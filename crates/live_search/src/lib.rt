@@ -1,5 +1,5 @@
 // What a search among the live requests looks for: "the oldest" that shows something (document 01, **Receive** and **Poll**). The rows
-// stand oldest first, so `position` with one of these tests finds it.
+// stand oldest first, so `position` with one of these tests finds it; the one in flight is found with its frame.
 #![tactic(auto)]
 
 ghost use Rattle.std.specs.Prelude.{◌≡◌, []};

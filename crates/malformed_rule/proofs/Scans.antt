@@ -1,14 +1,15 @@
 -- What the scans of the rows come to: whether an ID is live, how many requests are in flight, and one turn of the search for a bad one.
-use Prim.Native.Nat.{ℕ, ◌+◌, ◌-◌, ◌≤◌, ◌<◌}
+use Prim.Native.Nat.{ℕ, ◌+◌, ◌-◌}
 use mathlib.Core.Bool.{Bool, true, false, ◌||◌, cond as if}
+use Rattle.std.proofs.Math.Bool.{or_assoc}
+use Rattle.std.proofs.lemmas.List.{drop-drop}
 use mathlib.Core.List.{List, [], ◌∷◌}
 use mathlib.Core.Path.{◌≡◌, refl, sym, ap, ◌∙◌}
-use native.Mathlib.Numerals.{add-one}
 use native.Mathlib.Omega.{arith}
 use lib.Dec.{eqb}
-use lib.ListN.{length, take, drop, get_or, length-drop, drop_of_length-le}
-use lib.Seq.{drop-cons, take_all}
-use Rattle.std.specs.List.{filter, list_any}
+use lib.ListN.{length, take, drop, length-drop}
+use lib.Seq.{take_all}
+use Rattle.std.specs.List.{filter, list_any, enumerate_from}
 use Rattle.ledger.specs.Submitting.{is_live}
 use Rattle.ledger.specs.Refusals.{flights, flies_once}
 use Rattle.endpoint.specs.Code.{bad_request, some_bad}
@@ -17,7 +18,6 @@ use Rattle.endpoint.specs.Malformed.{bare_of}
 use Rattle.endpoint.specs.declared.State.{State}
 use Rattle.endpoint.specs.declared.State.TheVariants.{Queued, InFlight, Waiting}
 use Rattle.endpoint.specs.declared.Request.{Request}
-use Rattle.endpoint.proofs.Rows.{blank_row}
 
 -- an ID is live where some row has it
 abbrev pub has : (id : ℕ) → Request → Bool
@@ -44,35 +44,23 @@ unfolding flights
 flights_filter [] = refl
 flights_filter (q ∷ qs) = one_more q.state q (filter (λ q. flies q.state) qs) ∙ ap (λ (n : ℕ). flies_once (state_of q.state) + n) (flights_filter qs)
 
--- some row is bad: the one in turn, or one after it
-module _ (r clock : ℕ) (rows : List Request) (i : ℕ) where
-  module _ (less : i < length rows) where
-    turn : some_bad r clock (drop i rows)
-        ≡ (bad_request r clock (get_or rows i blank_row)
-        || (is_live (get_or rows i blank_row).id.0 (bare_of (drop (i + 1) rows)) || some_bad r clock (drop (i + 1) rows)))
-    unfolding some_bad
-    turn =
-        let split : drop i rows ≡ get_or rows i blank_row ∷ drop (i + 1) rows = drop-cons rows i blank_row less ∙ rw (add-one i) in
-        ap (λ (l : List Request). some_bad r clock l) split
+-- some row is bad: by itself, or as one behind it has its ID
+module _ (r clock : ℕ) (rows : List Request) where
+  -- the rows behind one, as the code lends them
+  abbrev behind : (place : ℕ) → List Request
+  behind i = take (length rows - (i + 1)) (drop (i + 1) rows)
 
-    pub bad_here : bad_request r clock (get_or rows i blank_row) ≡ true → some_bad r clock (drop i rows) ≡ true
-    bad_here bad = turn ∙ rw bad
+  abbrev pub bad_at : ℕ × Request → Bool
+  bad_at p = bad_request r clock p.1 || is_live p.1.id.0 (bare_of (behind p.0))
 
-    -- the rows behind it, as the code lends them
-    abbrev pub behind : List Request
-    behind = take (length rows - (i + 1)) (drop (i + 1) rows)
-
-    all_behind : behind ≡ drop (i + 1) rows
-    all_behind = take_all (length rows - (i + 1)) (drop (i + 1) rows) (omega (arith, length-drop {A = Request}))
-
-    pub bad_again : bad_request r clock (get_or rows i blank_row) ≡ false → is_live (get_or rows i blank_row).id.0 (bare_of behind) ≡ true
-        → some_bad r clock (drop i rows) ≡ true
-    bad_again good again = turn ∙ rw (good, rw all_behind at again)
-
-    pub bad_later : bad_request r clock (get_or rows i blank_row) ≡ false → is_live (get_or rows i blank_row).id.0 (bare_of behind) ≡ false
-        → some_bad r clock (drop (i + 1) rows) ≡ some_bad r clock (drop i rows)
-    bad_later good once = sym (turn ∙ rw (good, rw all_behind at once))
-
-  pub bad_end : length rows ≤ i → some_bad r clock (drop i rows) ≡ false
+  bad_from : (i : ℕ) (later : List Request) → later ≡ drop i rows → list_any bad_at (enumerate_from i later) ≡ some_bad r clock later
   unfolding some_bad
-  bad_end most = rw (drop_of_length-le rows most)
+  bad_from i [] is = refl
+  bad_from i (q ∷ qs) is =
+      let rest : qs ≡ drop (i + 1) rows = ap (drop 1) is ∙ drop-drop 1 i rows in
+      let all : behind i ≡ qs = take_all (length rows - (i + 1)) (drop (i + 1) rows) (omega (arith, length-drop {A = Request})) ∙ sym rest in
+      rw (all, bad_from (i + 1) qs rest)
+      (or_assoc (bad_request r clock q) (is_live q.id.0 (bare_of qs)) (some_bad r clock qs))
+
+  pub bad_any : list_any bad_at (enumerate_from 0 rows) ≡ some_bad r clock rows
+  bad_any = bad_from 0 rows refl

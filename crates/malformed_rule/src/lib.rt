@@ -39,12 +39,8 @@ fn in_flight(rows: &[Request]) -> usize
 fn some_bad(rows: &[Request], reserved: u64, clock: u64) -> bool
     ensures { result ≡ some_bad reserved clock rows.now }
 {
-    for (i, q) in rows.iter().enumerate() {
-        if is_bad(*q, reserved, clock) || is_among(&rows[i + 1..], q.id) {
-            return true;
-        }
-    }
-    false
+    rows.iter().enumerate().any(|(i, q)| is_bad(*q, reserved, clock)
+        || is_among(&rows[i + 1..], q.id))
 }
 
 // Whether an ID is that of one of these rows.

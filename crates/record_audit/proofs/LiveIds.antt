@@ -14,7 +14,7 @@ use Rattle.ledger.specs.Submitting.{last_id, is_live}
 use Rattle.ledger.specs.Refusals.{some_of, is_outside, two_equal}
 use Rattle.endpoint.specs.Malformed.{bare_of}
 use Rattle.endpoint.specs.declared.Request.{Request}
-use Rattle.endpoint.proofs.Order.{neither}
+use Rattle.std.proofs.lemmas.Bool.{or_parts}
 use Rattle.record_audit.specs.Records.{ids_of}
 
 -- no ID outside: each is above R
@@ -23,17 +23,17 @@ pub above : (r : ℕ) (rows : List Request) → some_of (λ q. is_outside r q.id
 unfolding some_of
 above r [] none-outside i inside = absurd (omega arith)
 above r (q ∷ rows) none-outside zero inside =
-    let own = (neither (is_outside r q.id.0) _ none-outside).0 in
+    let own = (or_parts (is_outside r q.id.0) _ none-outside).0 in
     leb-true (suc r) q.id.0 ((and-eq-true_iff (leb (suc r) q.id.0) (leb q.id.0 last_id)).0 (not-false _ own)).0
 above r (q ∷ rows) none-outside (suc i) inside =
-    above r rows (neither (is_outside r q.id.0) _ none-outside).1 i (omega arith)
+    above r rows (or_parts (is_outside r q.id.0) _ none-outside).1 i (omega arith)
 
 -- an ID that is not live is that of no row
 not_live : (id : ℕ) (rows : List Request) → is_live id (bare_of rows) ≡ false → (i : ℕ) → i < length (ids_of rows) → id ≢ id_at (ids_of rows) i
 unfolding is_live
 not_live id [] free i inside same = omega arith
-not_live id (q ∷ rows) free zero inside same = eqb-false q.id.0 id (neither (eqb q.id.0 id) _ free).0 (sym same)
-not_live id (q ∷ rows) free (suc i) inside same = not_live id rows (neither (eqb q.id.0 id) _ free).1 i (omega arith) same
+not_live id (q ∷ rows) free zero inside same = eqb-false q.id.0 id (or_parts (eqb q.id.0 id) _ free).0 (sym same)
+not_live id (q ∷ rows) free (suc i) inside same = not_live id rows (or_parts (eqb q.id.0 id) _ free).1 i (omega arith) same
 
 -- no two equal: those at two positions differ
 pub apart : (rows : List Request) → two_equal (bare_of rows) ≡ false
@@ -42,6 +42,6 @@ unfolding two_equal
 apart [] unequal i j less inside = absurd (omega arith)
 apart (q ∷ rows) unequal zero j less inside = absurd (omega arith)
 apart (q ∷ rows) unequal (suc i) zero less inside =
-    not_live q.id.0 rows (neither (is_live q.id.0 (bare_of rows)) _ unequal).0 i (omega arith)
+    not_live q.id.0 rows (or_parts (is_live q.id.0 (bare_of rows)) _ unequal).0 i (omega arith)
 apart (q ∷ rows) unequal (suc i) (suc j) less inside =
-    apart rows (neither (is_live q.id.0 (bare_of rows)) _ unequal).1 i j (omega arith) (omega arith)
+    apart rows (or_parts (is_live q.id.0 (bare_of rows)) _ unequal).1 i j (omega arith) (omega arith)

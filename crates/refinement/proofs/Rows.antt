@@ -14,7 +14,7 @@ use Rattle.ledger.specs.Refusals.{some_of, two_equal, flies_once, flights}
 use Rattle.endpoint.specs.Endpoint.{state_of, room_at, requests_from}
 use Rattle.endpoint.specs.Malformed.{bare_of, too_long}
 use Rattle.endpoint.specs.declared.Request.{Request}
-use Rattle.endpoint.proofs.Order.{neither}
+use Rattle.std.proofs.lemmas.Bool.{or_parts}
 use Rattle.endpoint.proofs.Listed.{live_rows}
 
 module _ (store : List ℕ) where
@@ -42,7 +42,7 @@ module _ (store : List ℕ) where
   unfolding requests_from some_of too_long
   short_data i [] h = refl
   short_data i (q ∷ qs) h =
-      let parts = neither (ltb max_data q.len) (too_long qs) h in
+      let parts = or_parts (ltb max_data q.len) (too_long qs) h in
       let row : q.len ≤ max_data = ltb-false max_data q.len parts.0 in
       let bytes : length (room_at store i q.len) ≤ max_data = simp length-take (omega arith) in
       rw (le-ltb max_data (length (room_at store i q.len)) bytes) (short_data (suc i) qs parts.1)

@@ -12,7 +12,8 @@ use Rattle.endpoint.specs.Endpoint.{state_of, rows_of}
 use Rattle.endpoint.specs.Malformed.{bare_of, malformed}
 use Rattle.endpoint.specs.declared.Request.{Request}
 use Rattle.endpoint.specs.declared.Endpoint.{Endpoint}
-use Rattle.endpoint.proofs.Order.{neither, facts}
+use Rattle.std.proofs.lemmas.Bool.{or_parts}
+use Rattle.endpoint.proofs.Order.{facts}
 use Rattle.live_deadline.specs.Deadlines.{IsInTime, NoneLate}
 
 module _ (now clock : ℕ) (later : now ≤ clock) where
@@ -24,9 +25,9 @@ module _ (now clock : ℕ) (later : now ≤ clock) where
   all_in_time : (rows : List Request) → some_of (λ q. is_late now q.state) (bare_of rows) ≡ false → NoneLate clock rows
   unfolding some_of
   all_in_time [] h i other less = absurd (omega arith)
-  all_in_time (q ∷ qs) h zero other less = in_time_law (state_of q.state) (neither (is_late now (state_of q.state)) _ h).0
+  all_in_time (q ∷ qs) h zero other less = in_time_law (state_of q.state) (or_parts (is_late now (state_of q.state)) _ h).0
   all_in_time (q ∷ qs) h (suc i) other less =
-      all_in_time qs (neither (is_late now (state_of q.state)) _ h).1 i other (omega arith)
+      all_in_time qs (or_parts (is_late now (state_of q.state)) _ h).1 i other (omega arith)
 
 pub none_late : (e : Endpoint) (clock : ℕ) → malformed e ≡ false → e.clock ≤ clock → NoneLate clock (rows_of e.live)
 none_late e clock h later = all_in_time e.clock clock later (rows_of e.live) (facts {e = e} h).times

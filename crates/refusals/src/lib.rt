@@ -1,6 +1,6 @@
 // Which calls the table refuses, in its order (document 01, "Refusal numbers, tested in this order"). The checks are public for the crate
 // of the calls alone.
-#![tactic(auto)]
+#![tactic(auto, unfolding(ledger::specs::Refusals::first_of))]
 
 ghost use Rattle.std.specs.Prelude.{◌≡◌, ◌||◌, [], ◌∷◌, eqb, ltb};
 ghost use Rattle.message.specs.Bytes.{total, max_len};
@@ -52,10 +52,7 @@ pub fn check_receive(e: Endpoint, reply: usize, buffer: usize, clock: u64) -> Re
         ≡ first_of (with_endpoint e clock (line 6 (ltb reply (total 0) || ltb buffer max_data) ∷ [])) }
 {
     check_endpoint(e, clock)?;
-    if reply < OVERHEAD {
-        return Err(Refusal::BufferShort);
-    }
-    if buffer < MAX_DATA {
+    if reply < OVERHEAD || buffer < MAX_DATA {
         return Err(Refusal::BufferShort);
     }
     Ok(())

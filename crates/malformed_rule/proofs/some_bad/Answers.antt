@@ -1,33 +1,15 @@
--- `malformed_rule::some_bad` meets its contract: the rows left give the answer.
-use Rattle.std.proofs.Common.{sym, ◌∙◌, arith}
-use Rattle.malformed_rule.proofs.Scans.{bad_here, bad_again, bad_later, bad_end}
-use Rattle.malformed_rule.proofs.some_bad.Goals.{then-is_bad-via-then-is_bad, then-is_bad-via-else-is_bad+then-is_among}
+-- `malformed_rule::some_bad` meets its contract: some row is bad, or one behind it has its ID.
+use Rattle.std.proofs.Common.{rules, tests, ◌∙◌}
+use Rattle.std.proofs.lemmas.Iterator.{YieldsList-from_slice}
+use Rattle.std.proofs.lemmas.Iterator.Consumers.{YieldsList-from_enumerate}
+use Rattle.std.proofs.lemmas.Iterator.Search.{any_from_yields_List}
+use Rattle.malformed_rule.proofs.Scans.{bad_at, bad_any}
 use Rattle.malformed_rule.proofs.some_bad.Goals as goal
-
-pub returns-then-is_bad : goal.returns-then-is_bad
-returns-then-is_bad c =
-    let a = c.args in
-    let l = c.loop-i in
-    elim c.then-is_bad.branch [
-      | then-is_bad-via-then-is_bad w ↦
-          sym (sym l.invariant ∙ bad_here a.reserved a.clock a.rows.now l.i (omega arith) (sym c.is_bad.ensures ∙ w.if-is_bad.true))
-      | then-is_bad-via-else-is_bad+then-is_among w ↦
-          sym (sym l.invariant
-          ∙ bad_again a.reserved a.clock a.rows.now l.i (omega arith)
-          (sym c.is_bad.ensures ∙ w.if-is_bad.false)
-          (sym w.is_among.ensures ∙ w.if-is_among.true))
-    ]
-
-pub loop-i-preserved : goal.loop-i-preserved
-loop-i-preserved c =
-    let a = c.args in
-    let l = c.loop-i in
-    bad_later a.reserved a.clock a.rows.now l.i (omega arith)
-    (sym c.is_bad.ensures ∙ c.if-is_bad.false)
-    (sym c.is_among.ensures ∙ c.if-is_among.false)
-    ∙ l.invariant
 
 pub returns : goal.returns
 returns c =
     let a = c.args in
-    sym (sym c.loop-i.invariant ∙ bad_end a.reserved a.clock a.rows.now c.loop-i.i (omega arith))
+    any_from_yields_List (bad_at a.reserved a.clock a.rows.now) _ _ c.any.result c.any.ensures.ran
+    (YieldsList-from_enumerate (YieldsList-from_slice a.rows.now (cc)) (cc))
+    (λ x b q k. search (rules, tests))
+    ∙ bad_any a.reserved a.clock a.rows.now
