@@ -19,6 +19,9 @@ use Rattle.endpoint.specs.Malformed.{too_long, malformed}
 use Rattle.endpoint.specs.Places.{Fits}
 use Rattle.endpoint.specs.declared.Endpoint.{Endpoint}
 use Rattle.refinement.proofs.Sound.{endpoint_sound}
+use Rattle.std.specs.Prelude.{Ok, Err}
+use Rattle.ledger.specs.declared.Refusal.TheVariants.{ReservedOver}
+use Rattle.host_answers.specs.Promises as promise
 use Rattle.refusals.proofs.Table.{first_holds, first_fails, no_line}
 
 -- an endpoint with the numbers of a fresh one
@@ -39,11 +42,18 @@ module _ (e : Endpoint) (r : ℕ) (none-live : e.live.count ≡ 0) (same : e.res
         (ap (ledger.malformed live_max) (fresh_ledger []) ∙ not_malformed live_max (fresh r) (fresh_fine live_max r small)),
   )
 
--- what open comes to
-pub open_refused : (given : ℕ) → reserved_max < given
-    → open_for given ≡ record { answer = refused 3; buffers = []; next = fresh 0 }
-open_refused given over = ap (opened_by given) (first_holds 3 (ltb reserved_max given) [] (lt-ltb reserved_max given over))
+-- what open comes to, with a fresh endpoint
+module _ (given : ℕ) (e : Endpoint) where
+  pub open_refused : reserved_max < given → ((store : List ℕ) → ledger_of e store ≡ fresh 0) × (malformed e ≡ false)
+      → promise.Opened (record { answer = Err ReservedOver; endpoint = e }) given
+  open_refused over is_fresh =
+      let comes : open_for given ≡ record { answer = refused 3; buffers = []; next = fresh 0 } =
+      ap (opened_by given) (first_holds 3 (ltb reserved_max given) [] (lt-ltb reserved_max given over)) in
+      record { answers = rw comes; next = rw comes is_fresh.0; sound = is_fresh.1 }
 
-pub open_accepted : (given : ℕ) → given ≤ reserved_max → open_for given ≡ record { answer = opened; buffers = []; next = fresh given }
-open_accepted given within =
-    ap (opened_by given) (first_fails 3 (ltb reserved_max given) [] (le-ltb reserved_max given within) ∙ no_line)
+  pub open_accepted : given ≤ reserved_max → ((store : List ℕ) → ledger_of e store ≡ fresh given) × (malformed e ≡ false)
+      → promise.Opened (record { answer = Ok tt; endpoint = e }) given
+  open_accepted within is_fresh =
+      let comes : open_for given ≡ record { answer = opened; buffers = []; next = fresh given } =
+      ap (opened_by given) (first_fails 3 (ltb reserved_max given) [] (le-ltb reserved_max given within) ∙ no_line) in
+      record { answers = rw comes; next = rw comes is_fresh.0; sound = is_fresh.1 }

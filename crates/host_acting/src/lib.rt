@@ -38,6 +38,7 @@ pub fn decide_in(store: &mut [u8; STORE_LENGTH], held: usize, bytes: &[u8]) -> D
 
 // What a message does, with the data of an event or a response put into the data buffer.
 // Ruled out: a message judged with another SEQ, and data of an event that are left out.
+// Stays: `e`, `kind`, `seq` and `clock` one by one, as `decisions::judge` has them; `Accepted` would ask for an endpoint that is sound.
 pub fn deliver<'a>(
     e: Endpoint,
     array: &'a [u8],

@@ -1,8 +1,8 @@
--- From the table and the ledger to a call's promise: a refused call, and an accepted one whose endpoint stays sound.
+-- From the table and the ledger to an accepted call's promise: its endpoint is sound, and stays so.
 use Prim.Native.Nat.{ℕ}
 use mathlib.Core.Bool.{false}
 use mathlib.Core.List.{List}
-use mathlib.Core.Option.{Option, none, some}
+use mathlib.Core.Option.{none}
 use mathlib.Core.Path.{◌≡◌}
 use borrow.Author.Tests.{ltb-false}
 use Rattle.ledger.specs.Calls.{Call}
@@ -13,29 +13,20 @@ use Rattle.endpoint.specs.Malformed.{malformed}
 use Rattle.endpoint.specs.declared.Endpoint.{Endpoint}
 use Rattle.refinement.specs.Refusals.{refusal_of}
 use Rattle.refinement.proofs.Sound.{next_sound}
-use Rattle.host_answers.specs.Promises.{Result, Refuses, ByTable, Promise}
+use Rattle.host_answers.specs.Promises.{Result, Promise}
 use Rattle.refusals.specs.Code.{with_endpoint}
 use Rattle.refusals.proofs.Table.{passed}
 use Rattle.host_answers.specs.Code.{Sound, Does}
 
-by_table : (e : Endpoint) (store : List ℕ) (c : Call) (o : Result) {n : Option ℕ} → refusal_of e store c ≡ n
-    → ByTable n e store c o
-    → Promise e store c o
-by_table e store c o table h = rw table h
-
 pub meets : (e : Endpoint) (store : List ℕ) (c : Call) (o : Result) → malformed e ≡ false → refusal_of e store c ≡ none
     → Does (accepts (ledger_of e store) c) o → Promise e store c o
 meets e store c o fine table does =
-    by_table e store c o table (record {
+    rw table (record {
       answers = does.answers;
       leaves = does.leaves;
       next = does.next;
       sound = next_sound e o.endpoint store o.store c fine table does.next does.fits does.holds;
     })
-
-pub refuses : (e : Endpoint) (store : List ℕ) (c : Call) (o : Result) (n : ℕ) → refusal_of e store c ≡ some n
-    → Refuses n e store c o → Promise e store c o
-refuses e store c o n table refused = by_table e store c o table refused
 
 -- an accepted call's endpoint
 pub sound_of : (e : Endpoint) (clock : ℕ) (own : List Line) → first_of (with_endpoint e clock own) ≡ none → Sound e clock

@@ -15,8 +15,7 @@ pub struct Accepted {
 
 impl Accepted {
     // The live requests, whose rows fit.
-    // Ruled out: those of another endpoint, and none where there are some.
-    #[tactic(auto, using(refinement::proofs::Sound::fits_of))]
+    // Ruled out: those of another endpoint, and a row outside the array.
     pub fn live(&self) -> Live
         ensures { result.requests ≡ self.now.e.live }
     {
@@ -26,7 +25,7 @@ impl Accepted {
     }
 
     // R, which is 255 at most.
-    // Ruled out: another R than the endpoint's, and one that is cut to its low byte.
+    // Ruled out: another R than the endpoint's, and the low byte of one over 255.
     #[tactic(auto, using(refinement::proofs::Sound::reserved_of))]
     pub fn reserved(&self) -> u8
         ensures { result ≡ self.now.e.reserved }

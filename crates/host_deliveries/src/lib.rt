@@ -25,6 +25,7 @@ use message::{Item, Seq};
 // The reply to an item: "Damaged header or payload: reply NAK .. Forbidden: no reply.", "DATA_SEQ: reply ACK with its SEQ."
 // For `host_receiving`, which lends room for it: the table has refused a smaller reply buffer.
 // Ruled out: a NAK to a forbidden item, and a DATA_SEQ that is not acknowledged.
+// Stays: the clause `total 0 ≤ length reply.old`, as for `frames::put_ack`.
 #[tactic(auto, using(host_answers::proofs::Held::placed_none))]
 pub fn put_reply(reply: &mut [u8], item: Item) -> usize
     requires { total 0 ≤ length reply.old }

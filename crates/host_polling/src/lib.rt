@@ -24,6 +24,7 @@ use live_deadline::time_left;
 use refusals::check_poll;
 
 // What `host::poll` does and promises.
+#[tactic(auto, using(host_answers::proofs::Calls::sound_of, host_answers::proofs::Calls::meets, host_sending::proofs::Stepping::long_enough))]
 pub fn poll_in(e: Endpoint, store: &mut [u8; STORE_LENGTH], output: &mut [u8], clock: u64) -> Polled
     ensures { promise.Polled result e output.old clock store.old store.new output.new }
 {
@@ -74,6 +75,7 @@ fn end(accepted: &Accepted, store: &mut [u8; STORE_LENGTH], row: usize, cause: C
 }
 
 // Nothing is due.
+#[tactic(auto, using(refinement::proofs::Times::none_late))]
 fn quiet(accepted: &Accepted) -> Polled
     ensures { (store output : List ℕ) → Does (polled_as (ledger_of accepted.now.e store)
         (step4 (ledger_of accepted.now.e store) accepted.now.clock) output accepted.now.clock)

@@ -1,11 +1,8 @@
 -- What an accepted receive comes to, by what the line decided: *more*, an item that is no message, or a message.
 use Prim.Native.Nat.{ℕ, ◌≤◌}
-use mathlib.Core.List.{List, [], ◌∷◌}
-use mathlib.Core.Logic.{⊎_elim}
-use mathlib.Core.Path.{◌≡◌, sym, ap, ◌∙◌}
+use mathlib.Core.List.{List, []}
+use mathlib.Core.Path.{◌≡◌, refl, sym, ap, ◌∙◌}
 use native.Mathlib.Omega.{arith}
-use denote.Enum.Declared.{tag_of}
-use types.Run.{OneOf}
 use lib.ListN.{length, take, drop, length-take}
 use Rattle.std.specs.Prelude.{Option, None, Some}
 use Rattle.message.specs.Bytes.{max_len}
@@ -14,7 +11,6 @@ use Rattle.message.specs.Writing.{placed}
 use Rattle.message.specs.declared.Seq.{Seq}
 use Rattle.message.specs.declared.Item.{Item}
 use Rattle.message.specs.declared.Item.TheVariants.{DamagedHeader, Forbidden, DamagedPayload, Message}
-use Rattle.message.specs.contracts.Item.{the_type}
 use Rattle.line.specs.Receiving as line
 use Rattle.line.specs.Receiving.{held_max}
 use Rattle.line.specs.Promises.{answer_of, part_of}
@@ -59,15 +55,19 @@ pub record NoMore (v : Verdict) (e : Endpoint) : Type 0 where
   pub change : v.change ≡ None
   pub seen : v.seen ≡ e.seen
 
--- what an item that is no message does
+-- an item that is no message
+abbrev pub NoMessage : Item → Type 0
+NoMessage i = (t : ℕ) (q : Seq) (len : ℕ) → i ≡ Message t q len → ⊥
+
+-- what it does
 plain : (e : Endpoint) (clock : ℕ) (v : Verdict) (i : Item) (payload store : List ℕ) → NoMore v e
-    → OneOf (0 ∷ 1 ∷ 2 ∷ []) (tag_of the_type i)
+    → NoMessage i
     → act (ledger_of e store) clock (line.item (item_of i)) payload ≡ act_of v (reply_for (item_of i)) payload (live_of e.live store)
 plain e clock v DamagedHeader payload store h k = rw (h.word, h.change, h.seen)
 plain e clock v Forbidden payload store h k = rw (h.word, h.change, h.seen)
 plain e clock v DamagedPayload payload store h k = rw (h.word, h.change, h.seen)
 plain e clock v (Message t q len) payload store h k =
-    absurd (⊎_elim (λ e. omega (arith, e)) (⊎_elim (λ e. omega (arith, e)) (λ e. omega (arith, e))) k)
+    absurd (k t q len refl)
 
 -- what `act` promises of its verdict
 abbrev pub Acts : Endpoint → Decision → Verdict → (replied clock : ℕ) → Received → (middle exit : List ℕ) → Type 0
@@ -120,7 +120,7 @@ module _ (e : Endpoint) (d : Decision) (v : Verdict) (clock replied : ℕ) (r : 
       (record { counts = no-reply; leaves = sym (placed_none reply) }) (untouched h)
 
   -- an item that is no message
-  pub on_plain : (i : Item) (left : List ℕ) → d.answer ≡ Some i → OneOf (0 ∷ 1 ∷ 2 ∷ []) (tag_of the_type i)
+  pub on_plain : (i : Item) (left : List ℕ) → d.answer ≡ Some i → NoMessage i
       → NoMore v e → Put replied (reply_for (item_of i)) reply left
       → Does (ledger.receive (ledger_of e entry) new reply buffer clock) (receive_result r exit left buffer)
   on_plain i left one k h put =

@@ -20,6 +20,7 @@ use message::Item;
 use refusals::check_receive;
 
 // What `host::receive` does and promises.
+#[tactic(auto, using(host_answers::proofs::Calls::sound_of, host_answers::proofs::Calls::meets, crate::proofs::Rooms::roomy))]
 pub fn receive_in(
     e: Endpoint,
     store: &mut [u8; STORE_LENGTH],
@@ -39,6 +40,7 @@ pub fn receive_in(
 
 // A receive that the table does not refuse.
 // Stays: the clause `total 0 ≤ length reply.old`, as for `frames::put_ack`.
+#[tactic(auto, using(refinement::proofs::Sound::held_of))]
 fn accept(
     accepted: &Accepted,
     store: &mut [u8; STORE_LENGTH],

@@ -18,6 +18,7 @@ use live_ids::{first_free, id_after};
 use refusals::check_submit;
 
 // What `host::submit` does and promises.
+#[tactic(auto, using(host_answers::proofs::Calls::sound_of, crate::proofs::Joining::room_of))]
 pub fn submit_in(
     e: Endpoint,
     store: &mut [u8; STORE_LENGTH],
@@ -35,6 +36,7 @@ pub fn submit_in(
 }
 
 // A submit that the table does not refuse: "The request joins as queued."
+// Stays: the clause `length «data».now ≤ max_data`, as for `frames::put_command`.
 fn accept(
     accepted: &Accepted,
     store: &mut [u8; STORE_LENGTH],

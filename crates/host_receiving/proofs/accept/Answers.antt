@@ -2,13 +2,8 @@
 use mathlib.Core.Path.{refl, ap, ◌∙◌}
 use native.Mathlib.Omega.{arith}
 use Rattle.std.specs.Prelude.{Some}
-use Rattle.refinement.proofs.Sound.{held_of}
 use Rattle.host_receiving.proofs.Deciding.{short_payload, on_more, on_plain, on_message_law}
-use borrow.Enum.Refused.{opened}
 use Rattle.host_receiving.proofs.accept.Goals as goal
-
-pub decide_in-decision-requires : goal.decide_in-decision-requires
-decide_in-decision-requires c = let it = c.args.accepted.now in held_of it.e it.sound.sound
 
 pub deliver-verdict-requires : goal.deliver-verdict-requires
 deliver-verdict-requires c =
@@ -37,7 +32,7 @@ returns-in_default-item c =
     let e = a.accepted.now.e in
     on_plain e d.result v.result a.accepted.now.clock put.result c.act-in_default-item.result a.bytes.now a.store.now
     d.new.store c.act-in_default-item.new.store a.reply.now a.buffer.now d.ensures c.act-in_default-item.ensures c.in-Some.item
-    put.new.reply c.in-Some.is (opened c.in_default-item.in_default-item-own.keys2)
+    put.new.reply c.in-Some.is c.in_default-item.not-Message
     (record { word = v.ensures.0; change = v.ensures.1; seen = v.ensures.2 }) put.ensures
 
 pub returns : goal.returns
