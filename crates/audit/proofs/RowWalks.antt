@@ -1,56 +1,45 @@
--- A walk over the IDs of a row, where they are read from its items: the laws of `Walks.antt`, at the row's own length.
-use Prim.Native.Nat.{ℕ, suc, ◌+◌, ◌≤◌, ◌<◌}
+-- A walk over a row by `position`, whose closure keeps a table of the IDs seen: the laws of `Walks.antt` along the calls.
+use Prim.Native.Nat.{ℕ, ◌+◌}
 use mathlib.Core.Bool.{Bool, true, false}
-use mathlib.Core.List.{List, ◌∷◌, map}
-use Rattle.std.specs.Prelude.{None, Some}
-use mathlib.Core.Path.{◌≡◌, sym, ap, subst, ◌∙◌}
+use mathlib.Core.List.{List, [], ◌∷◌, map}
+use mathlib.Core.Path.{◌≡◌, refl, sym, ap, subst, ◌∙◌}
 use native.Mathlib.Omega.{arith}
-use lib.ListN.{length, drop, replicate, get_or, length-map, drop_of_length-le, get_or-map}
-use lib.Seq.{drop-cons}
+use denote.Param.Members.{Mut, Called}
+use denote.Ref.{Bor}
+use lib.ListN.{length}
+use Rattle.std.specs.Prelude.{Option, None, Some}
+use Rattle.std.specs.Option.{MatchOption}
+use Rattle.std.specs.Iterator.{AlwaysYields, YieldsThen}
+use Rattle.std.specs.List.{FoldsTo}
 use Rattle.audit.specs.Audit.{audit}
-use Rattle.audit.specs.Code.{words, Judged}
-use Rattle.audit.proofs.Walks.{Walked, walk_starts, walk_finds, walk_goes_on, walk_ends}
+use Rattle.audit.specs.Code.{Judged}
+use Rattle.audit.proofs.Walks.{Walked, walk_finds, walk_goes_on, walk_ends}
 
--- a step at a number that is the ID
-pub judged_at : {r n id : ℕ} {table after : List ℕ} {answer : Bool} → n ≡ id → Judged r n table after answer → Judged r id table after answer
-judged_at {r} {table = table} {after = after} {answer = answer} same step = subst (λ (k : ℕ). Judged r k table after answer) same step
+module _ {A S F : Type 0} (id_of : A → ℕ) (r : ℕ) (row : List ℕ) (steps : S → Option (Bor A) → S → Type 0) (u : S) (g : Mut F (Bor A × Unit {0}) Bool)
+    (table : F → List ℕ) (limit : F → ℕ)
+    (step : (p q : F) (x : Bor A) (b : Bool) → Called g p (x, tt) b q → (limit q ≡ limit p) × Judged (limit p) (id_of x.now) (table p) (table q) b) where
+  -- a call, at an ID and a number that are known
+  called : (p q : F) (x : Bor A) (b : Bool) (y : A) → x.now ≡ y → limit p ≡ r → Called g p (x, tt) b q → Judged r (id_of y) (table p) (table q) b
+  called p q x b y same low call =
+      subst (λ (k : ℕ). Judged k (id_of y) (table p) (table q) b) low
+      (subst (λ (z : A). Judged (limit p) (id_of z) (table p) (table q) b) same (step p q x b call).1)
 
-module _ {A : Type 0} (id_of : A → ℕ) (r : ℕ) (row : List A) where
-  abbrev pub ids : List ℕ
-  ids = map id_of row
-
-  -- before the item at position i, with a table of the IDs seen
-  abbrev pub Before : (table : List ℕ) (i : ℕ) → Type 0
-  Before table i = Walked r ids table i (drop i ids)
-
-  pub row_starts : Before (replicate words 0) 0
-  row_starts = walk_starts r ids
-
-  -- as many IDs as items
-  as_many : length row ≡ length ids
-  as_many = sym (length-map row id_of)
-
-  module _ (table : List ℕ) (i : ℕ) (before : Before table i) where
-    pub row_ends : length row ≤ i → None ≡ audit r ids
-    row_ends most =
-        let over : length ids ≤ i = subst (λ (n : ℕ). n ≤ i) as_many most in
-        walk_ends r ids table i (subst (Walked r ids table i) (drop_of_length-le ids over) before)
-
-    module _ (item : A) (is : item ≡ get_or row i item) (less : i < length row) (after : List ℕ) (answer : Bool) (step : Judged r (id_of item) table after answer) where
-      -- the IDs that are left: the item's, and those of the items after it
-      split : drop i ids ≡ id_of item ∷ drop (suc i) ids
-      split =
-          drop-cons ids i (id_of item) (subst (λ (n : ℕ). i < n) as_many less)
-          ∙ ap (λ (id : ℕ). id ∷ drop (suc i) ids) (get_or-map id_of row i item ∙ ap id_of (sym is))
-
-      walked : Walked r ids table i (id_of item ∷ drop (suc i) ids)
-      walked = subst (Walked r ids table i) split before
-
-      pub row_found : answer ≡ true → Some i ≡ audit r ids
-      row_found = walk_finds r ids table i (id_of item) (drop (suc i) ids) walked after answer step
-
-      pub row_passed : answer ≡ false → Before after (i + 1)
-      row_passed sound =
-          let sum : suc i ≡ i + 1 = omega arith in
-          subst (λ (k : ℕ). Walked r ids after (i + 1) (drop k ids)) sum
-          (walk_goes_on r ids table i (id_of item) (drop (suc i) ids) walked after answer step sound)
+  pub row_walk : (rest : List A) (i : ℕ) (s : S) (p : F) → AlwaysYields steps (λ x. x.now) s rest → limit p ≡ r
+      → Walked r row (table p) i (map id_of rest) → (xs : List (Bor A)) (n : ℕ) → n ≡ i + length xs → (o : Option (Bor A)) (j : F) (found : Option ℕ) → YieldsThen steps s xs o u
+      → FoldsTo (λ p x q. Called g p (x, tt) false q) p xs j
+      → MatchOption o (found ≡ None) (λ x. (found ≡ Some n) × ((h : F) × Called g j (x, tt) true h)) → found ≡ audit r row
+  row_walk [] i s p always low walked [] n count None j found (t, same, last) folds none = none ∙ walk_ends r row (table p) i walked
+  row_walk [] i s p always low walked [] n count (Some x) j found (t, same, last) folds some = absurd (always x u (rw (sym same) at last))
+  row_walk [] i s p always low walked (x ∷ xs) n count o j found (t, (k, first, more), last) folds some = absurd (always x k first)
+  row_walk (y ∷ ys) i s p always low walked [] n count None j found (t, same, last) folds none = absurd (always.0 u (rw (sym same) at last))
+  row_walk (y ∷ ys) i s p always low walked [] n count (Some x) j found (t, same, last) folds (place, (h, call)) =
+      let told = always.1 x u (rw (sym same) at last) in
+      let is : n ≡ i = omega arith in
+      let judged = called p h x true y told.0 low (rw (sym folds) at call) in
+      place ∙ ap Some is ∙ walk_finds r row (table p) i (id_of y) (map id_of ys) walked (table h) true judged refl
+  row_walk (y ∷ ys) i s p always low walked (x ∷ xs) n count o j found (t, (k, first, more), last) (q, call, folds) some =
+      let told = always.1 x k first in
+      let judged = called p q x false y told.0 low call in
+      row_walk ys (i + 1) k q told.1 ((step p q x false call).0 ∙ low)
+      (walk_goes_on r row (table p) i (id_of y) (map id_of ys) walked (table q) false judged refl)
+      xs n (omega arith) o j found (t, more, last) folds some

@@ -38,10 +38,6 @@ pub fn audit_row<T: HasId>(row: &[T], reserved: u64) -> Option<usize>
     ensures { result ≡ audit reserved (map T.id_of row.now) }
 {
     let mut seen = [0; WORDS];
-    for (i, item) in row.iter().enumerate() {
-        if is_unsound(item.id(), reserved, &mut seen) {
-            return Some(i);
-        }
-    }
-    None
+    row.iter()
+        .position(|item| is_unsound(item.id(), reserved, &mut seen))
 }

@@ -24,6 +24,7 @@ fn is_reserved(id: u16, reserved: u64) -> bool
 }
 
 // Marks an ID as seen, and answers whether it was seen before.
+#[tactic(auto, unfolding(crate::specs::Code::has_seen, crate::specs::Code::with_seen))]
 fn mark(id: u16, seen: &mut [u64; WORDS]) -> bool
     ensures { (result ≡ has_seen seen.old id) × (seen.new ≡ with_seen seen.old id) }
 {

@@ -28,7 +28,7 @@ pub fn part(bytes: &[u8], at: usize, len: usize) -> &[u8]
 // The place of the first byte of the kind asked for among those from `from` up to `to`, or `to` where there is none. Public for the
 // crates above, which see that the part is one of the slice.
 // Ruled out: a later place, and one behind the part.
-// Stays: a place and no Option of one, since `find` is public and promises the part's end.
+// Stays: a place and no Option of one, since `find` is public, and its clause `within` promises a place also where there is none.
 pub fn find(bytes: &[u8], from: usize, to: usize, byte: u8) -> usize
     requires { (from ≤ to) × (to ≤ length bytes.now) }
     ensures within { (from ≤ result) × (result ≤ to) }

@@ -37,6 +37,7 @@ pub extern "C" fn fizrahum_write(
 }
 
 // The first item of the bytes. Answers the number of the rule that decided it, or 0, and sets all six numbers.
+#[tactic(auto, using(crate::proofs::Told::place_within))]
 #[unsafe(no_mangle)]
 pub extern "C" fn fizrahum_read(
     bytes: &[u8],

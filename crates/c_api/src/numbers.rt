@@ -48,11 +48,8 @@ fn of_item(item: Item, dropped: usize, removed: usize) -> Numbers
     ensures { numbers_in result ≡ numbers_of (decided (item_of item) dropped removed) }
 {
     match item {
-        Item::DamagedHeader => of_no_message(2, dropped, removed),
-        Item::Forbidden => of_no_message(3, dropped, removed),
-        Item::DamagedPayload => of_no_message(5, dropped, removed),
         Item::Message { kind, seq, len } => Numbers {
-            rule: 6,
+            rule: item.rule(),
             kind,
             seq: seq.0,
             payload: dropped + HEADER_LENGTH,
@@ -60,6 +57,7 @@ fn of_item(item: Item, dropped: usize, removed: usize) -> Numbers
             dropped,
             removed,
         },
+        _ => of_no_message(item.rule(), dropped, removed),
     }
 }
 

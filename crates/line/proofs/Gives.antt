@@ -9,9 +9,10 @@ use lib.Seq.{take-take, take_all}
 use Rattle.std.specs.Prelude.{None, Some}
 use Rattle.message.specs.Bytes.{header_length}
 use Rattle.message.specs.Items.{Scan, undecided, decided, dropped, len_in, type_in, scan, payload_of}
-use Rattle.message.specs.Promises.{item_of}
+use Rattle.message.specs.Promises.{item_of, scan_of}
 use Rattle.message.specs.Writing.{placed}
 use Rattle.message.specs.declared.Item.{Item}
+use Rattle.message.specs.declared.Reading.{Reading}
 use Rattle.message.specs.declared.Item.TheVariants.{DamagedHeader, Forbidden, DamagedPayload, Message}
 use Rattle.message.proofs.Buffer.{through_placed}
 use Rattle.message.proofs.Dropping.{dropped_within}
@@ -40,6 +41,10 @@ unfolding scan
 undecided_left xs h =
     let b = bounded_by (dropped xs) (drop (dropped xs) xs) (scan xs) (applied (dropped xs) (drop (dropped xs) xs)) h in
     rw b.0 (refl, b.1)
+
+-- so where no item is read, no more is dropped than there is
+pub dropped_in : (r : Reading) (xs : List ℕ) → scan_of r ≡ scan xs → r.first ≡ None → r.dropped ≤ length xs
+dropped_in r xs told none = let h = sym (rw none at told) in omega (arith, undecided_left xs h, dropped_within xs)
 
 -- no item: what is left stands at the front
 pub gives_more : (d : Decision) (held new array : List ℕ) {e : ℕ} → scan (held ++ new) ≡ undecided e

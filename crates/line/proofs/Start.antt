@@ -20,11 +20,13 @@ use Rattle.message.proofs.Found.{message_at}
 use Rattle.message.proofs.Headers.{both}
 use Rattle.message.proofs.Rules.{Applied, by_1, by_2, by_3, by_4, by_5, by_6, applied, rule_1}
 use Rattle.line.specs.Code.{breaks}
-use Rattle.line.specs.Promises.{Decides, part_of}
+use Rattle.line.specs.Promises.{bytes_of, Decides, part_of}
 use Rattle.line.specs.Receiving.{held_max, receive}
+use Rattle.line.specs.declared.Part.{Part}
 use Rattle.line.specs.declared.Place.{Place}
 use Rattle.line.specs.declared.Decision.{Decision}
 use Rattle.line.proofs.Gives.{undecided_left, front_placed}
+use Rattle.line.proofs.Moving.{length_part}
 use Rattle.line.proofs.Reach.{reach_within}
 use Rattle.line.proofs.Taking.{at_item, receive_lone}
 
@@ -89,12 +91,22 @@ no_payload DamagedPayload xs n r h size place array new = rw h
 no_payload (Message t q len) xs n r h size place array new =
     absurd (omega (arith, (message_at xs h).whole, length-drop (dropped xs) xs))
 
-module _ (kept : ℕ) (held new : List ℕ) (size : length held ≡ kept) (some : 0 < kept) (none : scan held ≡ undecided 0) where
+module _ (p : Part) (array new : List ℕ) (within : p.from + p.count ≤ length array) (some : 0 < p.count)
+    (none : scan (bytes_of p array) ≡ undecided 0) where
+  abbrev kept : ℕ
+  kept = p.count
+
+  abbrev held : List ℕ
+  held = bytes_of p array
+
+  size : length held ≡ kept
+  size = length_part p.from p.count array within
+
   at_front : dropped held ≡ 0
   at_front = sym (undecided_left held none).0
 
   here : stands held ≡ true
-  here = rw at_front at (stands_left held (rw at_front (omega arith)))
+  here = rw at_front at (stands_left held (rw at_front (omega (arith, size))))
 
   keeps : breaks kept new ≡ false → (j : ℕ) → dropped (held ++ take j new) ≡ 0
   keeps wrong j = keeps_at held (take j new) here (λ one more.
@@ -119,16 +131,16 @@ module _ (kept : ℕ) (held new : List ℕ) (size : length held ≡ kept) (some 
     pub header_waits : breaks kept new ≡ false → {n : ℕ} → scan whole ≡ undecided n → scan whole ≡ undecided 0
     header_waits wrong h = h ∙ ap undecided ((undecided_left whole h).0 ∙ keeps wrong missing)
 
-    pub gives_header : (d : Decision) (i : Item) (n r : ℕ) (array exit : List ℕ) → breaks kept new ≡ false
+    pub gives_header : (d : Decision) (i : Item) (n r : ℕ) (exit : List ℕ) → breaks kept new ≡ false
         → scan whole ≡ decided (item_of i) n r → length array ≡ held_max → exit ≡ placed 0 (drop 2 whole) array
         → (d.answer ≡ Some i) × (d.taken ≡ missing) × (d.start ≡ 0) × (d.count ≡ 6) → Decides d held new exit
-    gives_header d i n r array exit wrong h full stands said =
+    gives_header d i n r exit wrong h full stands said =
         let two : r ≡ 2 = header_removes whole h size_whole in
         let w = reach_within whole h in
         let front : n ≡ 0 = w.0 ∙ keeps wrong missing in
         let six : length (drop 2 whole) ≡ 6 = rw (length-drop 2 whole, size_whole) in
         let kept : take 6 exit ≡ drop 2 whole = rw stands (rw six at (front_placed (drop 2 whole) array (omega (arith, six)))) in
-        let got = at_item held new missing {i = item_of i} {d = n} {r = r} enough h (omega (arith, w, size_whole)) in
+        let got = at_item held new missing {i = item_of i} {d = n} {r = r} enough h (omega (arith, w, size, size_whole)) in
         record {
           gives = rw
               (said.0, said.1, said.2, said.3, got, h, kept, no_payload i whole n r h size_whole d.payload exit new, front, two);

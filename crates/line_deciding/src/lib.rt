@@ -2,21 +2,20 @@
 // where it is held: into the array, or to its front.
 #![tactic(auto)]
 
-ghost use Rattle.std.specs.Prelude.{◌≡◌, [], ◌+◌, ◌≤◌, length, take, Some};
-ghost use Rattle.message.specs.Bytes.{header_length};
+mod found; // an item, and what is held behind it
+
+ghost use Rattle.std.specs.Prelude.{◌≡◌, [], ◌≤◌, length, take};
 ghost use Rattle.message.specs.Items.{undecided, scan};
-ghost use Rattle.message.specs.Promises.{scan_with};
-ghost use Rattle.line.specs.Receiving.{held_max, taken};
+ghost use Rattle.line.specs.Receiving.{held_max};
 ghost use Rattle.line.specs.Code.{breaks};
 ghost use Rattle.line.specs.Promises.{Decides};
-ghost use Rattle.line.specs.declared.Place.TheVariants.{Held};
 
+use crate::found::Found;
 use line::store::put_at;
-use line::{Decision, HELD_MAX, Part, Place};
+use line::{Decision, HELD_MAX, Part};
 use line_joining::{all_held, join};
-use message::header::{HEADER_LENGTH, SYN, total_length};
-use message::{FirstItem, Item};
-use message_reader::{len_in, read};
+use message::header::SYN;
+use message_reader::read;
 
 // The item that the array's first count bytes and the new ones decide, with all that a call gives. For the crates above, which
 // have refused a count over HELD_MAX: it is their malformed endpoint.
@@ -30,26 +29,15 @@ pub fn decide(array: &mut [u8; HELD_MAX], count: usize, new: &[u8]) -> Decision
     let Some(first) = reading.first else {
         return without_dropped(array, reading.dropped, count, new);
     };
-    in_array(first, reading.dropped, count)
-}
-
-// An item of the array's first count bytes alone: none is moved, and no new one taken.
-fn in_array(first: FirstItem, dropped: usize, count: usize) -> Decision
-    requires { (dropped + first.removed ≤ count) × (count ≤ held_max) }
-    ensures { (result.answer ≡ Some first.item) × (result.taken ≡ 0) × (result.start ≡ dropped + first.removed)
-        × (result.start + result.count ≡ count) × (result.payload ≡ Held (dropped + header_length)) }
-{
-    let start = dropped + first.removed;
-    Decision {
-        answer: Some(first.item),
-        taken: 0,
-        start,
-        count: count - start,
-        payload: Place::Held(dropped + HEADER_LENGTH),
-    }
+    let found = Found {
+        dropped: reading.dropped,
+        first,
+    };
+    found.in_array(count)
 }
 
 // No item of the held bytes: those that are dropped go, and what is left may begin a message.
+#[tactic(auto, using(line::proofs::Dropped::drops, line::proofs::Dropped::all_dropped, line::proofs::Dropped::waits, line::proofs::Dropped::receives, line::proofs::Moving::length_part, line::proofs::Start::decides_same, line::proofs::Start::broken))]
 fn without_dropped(array: &mut [u8; HELD_MAX], dropped: usize, count: usize, new: &[u8]) -> Decision
     requires { (count ≤ held_max) × (scan (take count array.old) ≡ undecided dropped) }
     ensures { Decides result (take count array.old) new.now array.new }
@@ -76,6 +64,7 @@ fn breaks_syn(kept: usize, new: &[u8]) -> bool
 }
 
 // Nothing is held: an item is read where the new bytes stand.
+#[tactic(auto, using(message::proofs::Buffer::tail, line::proofs::Gives::dropped_in, line::proofs::Gives::undecided_left, line::proofs::Gives::gives_more, line::proofs::Gives::front_placed))]
 fn in_new(array: &mut [u8; HELD_MAX], new: &[u8]) -> Decision
     ensures { Decides result [] new.now array.new }
 {
@@ -85,35 +74,9 @@ fn in_new(array: &mut [u8; HELD_MAX], new: &[u8]) -> Decision
         put_at(array, 0, rest);
         return all_held(rest.len(), new.len());
     };
-    item_in_new(array, first, reading.dropped, new)
-}
-
-// An item of the new bytes: what follows it, of the bytes that decide it, is held.
-fn item_in_new(array: &mut [u8; HELD_MAX], first: FirstItem, dropped: usize, new: &[u8]) -> Decision
-    requires { scan new.now ≡ scan_with dropped (Some first) }
-    ensures { Decides result [] new.now array.new }
-{
-    let end = deciding_length(first, dropped, new);
-    let follows = &new[dropped + first.removed..end];
-    put_at(array, 0, follows);
-    Decision {
-        answer: Some(first.item),
-        taken: end,
-        start: 0,
-        count: follows.len(),
-        payload: Place::New(dropped + HEADER_LENGTH),
-    }
-}
-
-// How many bytes decided the item: those of its header, or of the whole message.
-fn deciding_length(first: FirstItem, dropped: usize, new: &[u8]) -> usize
-    requires { scan new.now ≡ scan_with dropped (Some first) }
-    ensures { (result ≡ taken [] new.now) × (dropped + first.removed ≤ result) × (dropped + header_length ≤ result)
-        × (result ≤ length new.now) × (result ≤ dropped + first.removed + held_max) }
-{
-    match first.item {
-        Item::DamagedHeader | Item::Forbidden => dropped + HEADER_LENGTH,
-        Item::DamagedPayload => dropped + total_length(len_in(&new[dropped..])),
-        Item::Message { .. } => dropped + first.removed,
-    }
+    let found = Found {
+        dropped: reading.dropped,
+        first,
+    };
+    found.in_new(array, new)
 }

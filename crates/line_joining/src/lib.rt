@@ -41,6 +41,7 @@ pub fn join(array: &mut [u8; HELD_MAX], held: Part, new: &[u8]) -> Decision
 }
 
 // The start of a header is held.
+#[tactic(auto, using(line::proofs::Start::start_waits, line::proofs::Start::header_waits))]
 fn after_start(array: &mut [u8; HELD_MAX], held: Part, new: &[u8]) -> Decision
     requires { (0 < held.count) × (held.count < header_length) × (scan (bytes_of held array.old) ≡ undecided 0)
         × (breaks held.count new.now ≡ false) }
@@ -88,6 +89,7 @@ fn header_item(array: &mut [u8; HELD_MAX], held: Part, item: Item, bytes: &[u8])
 }
 
 // A header that is sound and allowed stands whole in the kept bytes and the new ones.
+#[tactic(auto, using(line::proofs::Whole::waits_for, line::proofs::Whole::all_waits))]
 fn after_header(array: &mut [u8; HELD_MAX], held: Part, len: usize, new: &[u8]) -> Decision
     requires { (header_length ≤ held.count + length new.now)
         × (scan (bytes_of held array.old ++ take (header_length - held.count) new.now) ≡ undecided 0)
@@ -102,6 +104,7 @@ fn after_header(array: &mut [u8; HELD_MAX], held: Part, len: usize, new: &[u8]) 
 }
 
 // The message is whole with `need` new bytes.
+#[tactic(auto, using(line::proofs::Whole::waits_for))]
 fn whole_message(
     array: &mut [u8; HELD_MAX],
     held: Part,

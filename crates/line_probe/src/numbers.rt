@@ -42,17 +42,15 @@ fn of_item(item: Item, taken: usize, held: usize) -> Numbers
     ensures { numbers_in result ≡ numbers_of (one (item_of item)) taken held }
 {
     match item {
-        Item::DamagedHeader => of_no_message(2, taken, held),
-        Item::Forbidden => of_no_message(3, taken, held),
-        Item::DamagedPayload => of_no_message(5, taken, held),
         Item::Message { kind, seq, len } => Numbers {
-            rule: 6,
+            rule: item.rule(),
             kind,
             seq: seq.0,
             len,
             taken,
             held,
         },
+        _ => of_no_message(item.rule(), taken, held),
     }
 }
 

@@ -13,7 +13,7 @@ use line_deciding::decide;
 // The next item of the array's first count bytes and of the new ones; the bytes held then stand at the front. For the crates above,
 // which have refused a count over HELD_MAX: it is their malformed endpoint.
 // Ruled out: a byte taken that the item does not need, and held bytes lost when there are no new ones.
-// Stays: an array and its count and no vector of fixed room, since they are a part of the store that the host lends.
+// Stays: an array and its count and no vector of fixed room, since the C function `fizrahum_probe_receive` is lent them so.
 pub fn receive(array: &mut [u8; HELD_MAX], count: usize, new: &[u8]) -> Received
     requires { count ≤ held_max }
     ensures { Receives result (take count array.old) new.now array.new }
@@ -29,7 +29,8 @@ pub fn receive(array: &mut [u8; HELD_MAX], count: usize, new: &[u8]) -> Received
 
 // Puts the bytes to be held at the front of the array and answers how many they are, when the payload is no longer needed. For the
 // crates above, with what `decide` answered for this array.
-// Stays: a slice, since it may have any length that the part lies in.
+// Stays: a slice and no array, since `settle` promises this of a slice of any length that the part lies in, and may not ask more.
+#[tactic(auto, using(line::proofs::Moving::front_moved))]
 pub fn settle(array: &mut [u8], decision: Decision) -> usize
     requires { decision.start + decision.count ≤ length array.old }
     ensures { (result ≡ decision.count)

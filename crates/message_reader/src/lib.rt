@@ -15,6 +15,7 @@ use message::header::{
 use message::{FirstItem, Item, Reading, Seq};
 
 // The first item of the bytes, by the six rules.
+#[tactic(auto, using(message::proofs::Buffer::tail, message::proofs::Dropping::dropped_within), unfolding(message::specs::Items::scan))]
 pub fn read(bytes: &[u8]) -> Reading
     ensures { scan_of result ≡ scan bytes.now }
 {
@@ -48,6 +49,7 @@ fn count_dropped(bytes: &[u8]) -> usize
 }
 
 // Rules 1 to 6, on what is left after dropping.
+#[tactic(auto, using(message::proofs::Buffer::tail), unfolding(message::specs::Items::rules))]
 fn apply_rules(rest: &[u8]) -> Option<FirstItem>
     ensures { (dropped : ℕ) → scan_with dropped result ≡ rules dropped rest.now }
 {

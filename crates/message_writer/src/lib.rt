@@ -12,8 +12,9 @@ use message::header::{
 };
 use message::{Seq, WriteError};
 
-// Stays: place, TYPE, SEQ and payload one by one and no struct of them, as `fizrahum_write` has them and the pages name them.
 // Places a message at a place of the buffer, and answers its length. All other bytes stay; a refusal leaves every byte.
+// Stays: place, TYPE, SEQ and payload one by one and no struct of them, as the C function `fizrahum_write` has them and hands them on.
+#[tactic(auto, using(message::proofs::Accepted::fitting))]
 pub fn write(
     buffer: &mut [u8],
     place: usize,
@@ -30,6 +31,7 @@ pub fn write(
 }
 
 // The same for a payload of len bytes that stands in its place already, behind the room for the header.
+#[tactic(auto, using(message::proofs::Accepted::fitting))]
 pub fn write_around(
     buffer: &mut [u8],
     place: usize,
@@ -65,6 +67,7 @@ fn put_around(buffer: &mut [u8], place: usize, kind: u8, seq: Seq, len: usize)
 }
 
 // The message's length, with the refusals in the table's order.
+#[tactic(auto, using(message::proofs::Headers::writable_short), unfolding(message::specs::Writing::written))]
 fn answer_to(size: usize, place: usize, kind: u8, seq: Seq, len: usize) -> Result<usize, WriteError>
     ensures { answer_of result ≡ written size place kind seq.0 len }
 {
@@ -98,6 +101,7 @@ fn write_header(buffer: &mut [u8], kind: u8, len: usize, seq: Seq)
 }
 
 // TYPE, LEN and SEQ, at the front of the buffer.
+#[tactic(auto, using(message::proofs::Buffer::copied_front, message::proofs::Headers::le16_bytes), unfolding(message::specs::Bytes::fields, message::specs::Bytes::le16))]
 fn write_fields(buffer: &mut [u8], kind: u8, len: usize, seq: Seq)
     requires { (4 ≤ length buffer.old) × (len ≤ max_len) }
     ensures { buffer.new ≡ placed 0 (fields kind len seq.0) buffer.old }
@@ -107,6 +111,7 @@ fn write_fields(buffer: &mut [u8], kind: u8, len: usize, seq: Seq)
 }
 
 // The checksum of the first len bytes of the buffer, after them.
+#[tactic(auto, using(message::proofs::Buffer::lent_front, message::proofs::Headers::length_le16))]
 fn write_checksum(buffer: &mut [u8], len: usize)
     requires { len + 2 ≤ length buffer.old }
     ensures { buffer.new ≡ placed len (le16 (checksum_of (take len buffer.old))) buffer.old }
@@ -116,6 +121,7 @@ fn write_checksum(buffer: &mut [u8], len: usize)
 }
 
 // A 16-bit number, at the front of the buffer.
+#[tactic(auto, using(message::proofs::Buffer::copied_front, message::proofs::Headers::le16_bytes))]
 fn write_le16(buffer: &mut [u8], n: u16)
     requires { 2 ≤ length buffer.old }
     ensures { buffer.new ≡ placed 0 (le16 n) buffer.old }

@@ -9,10 +9,6 @@ use Rattle.line.proofs.Gives.{gives_item}
 use Rattle.line.proofs.Taking.{at_held}
 use Rattle.line_deciding.proofs.decide.Goals as goal
 
-pub without_dropped-requires : goal.without_dropped-requires
-without_dropped-requires c =
-    (c.requires, sym (rw c.in_default.is at c.read-reading.ensures))
-
 pub in_array-requires : goal.in_array-requires
 in_array-requires c =
     let a = c.args in

@@ -3,25 +3,10 @@ use Prim.Native.Nat.{◌-◌}
 use mathlib.Core.Path.{sym, ◌∙◌}
 use native.Mathlib.Omega.{arith}
 use lib.ListN.{take, drop}
-use Rattle.line.proofs.Dropped.{drops, all_dropped, waits, receives}
+use Rattle.line.proofs.Dropped.{drops, receives}
 use Rattle.line.proofs.Moving.{length_part}
 use Rattle.line.proofs.Start.{decides_same, broken}
 use Rattle.line_deciding.proofs.without_dropped.Goals as goal
-
-pub overflow_sub-kept : goal.overflow_sub-kept
-overflow_sub-kept c =
-    let p = c.requires in
-    let a = c.args in
-    drops a.count a.dropped a.array.now (omega arith) p.0 p.1
-
-pub returns-then-kept-eq0 : goal.returns-then-kept-eq0
-returns-then-kept-eq0 c =
-    let p = c.requires in
-    let a = c.args in
-    let le = drops a.count a.dropped a.array.now (omega arith) p.0 p.1 in
-    decides_same
-    (all_dropped a.count a.dropped a.array.now (omega arith) p.0 p.1 a.new.now (omega (arith, le)))
-    c.in_new.ensures
 
 pub returns-then-breaks_syn : goal.returns-then-breaks_syn
 returns-then-breaks_syn c =
@@ -36,23 +21,3 @@ returns-then-breaks_syn c =
     ∙ broken kept held a.new.now size (sym c.breaks_syn.ensures
     ∙ c.if-breaks_syn.true))
     c.in_new-then-breaks_syn.ensures
-
-pub join-requires : goal.join-requires
-join-requires c =
-    let p = c.requires in
-    let a = c.args in
-    let le = drops a.count a.dropped a.array.now (omega arith) p.0 p.1 in (
-      omega arith,
-      waits a.count a.dropped a.array.now (omega arith) p.0 p.1 (a.count - a.dropped) (omega (arith, le)),
-      sym c.breaks_syn.ensures ∙ c.if-breaks_syn.false,
-    )
-
-pub returns : goal.returns
-returns c =
-    let p = c.requires in
-    let a = c.args in
-    let le = drops a.count a.dropped a.array.now (omega arith) p.0 p.1 in
-    decides_same
-    (receives a.count a.dropped a.array.now (omega arith) p.0 p.1 (a.count - a.dropped) (omega (arith, le))
-    a.new.now)
-    c.join.ensures

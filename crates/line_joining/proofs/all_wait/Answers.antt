@@ -3,8 +3,7 @@ use Prim.Native.Nat.{ℕ, ◌+◌, ◌≤◌}
 use mathlib.Core.List.{List, ◌++◌}
 use mathlib.Core.Path.{◌≡◌, ◌∙◌}
 use native.Mathlib.Omega.{arith}
-use lib.ListN.{length, take, drop, length-append, length-drop}
-use lib.Seq.{length-take-le}
+use lib.ListN.{length, take, drop, length-append}
 use Rattle.std.specs.Prelude.{None}
 use Rattle.message.specs.Items.{undecided, scan}
 use Rattle.message.specs.Writing.{placed}
@@ -12,8 +11,8 @@ use Rattle.message.proofs.Buffer.{through_placed}
 use Rattle.line.specs.Promises.{Decides}
 use Rattle.line.specs.Receiving.{held_max}
 use Rattle.line.specs.declared.Decision.{Decision}
-use Rattle.line.proofs.Gives.{gives_more, front_placed}
-use Rattle.line.proofs.Moving.{moved, length_moved}
+use Rattle.line.proofs.Gives.{gives_more}
+use Rattle.line.proofs.Moving.{moved, length_part, length_moved, front_moved}
 use Rattle.line_joining.proofs.all_wait.Goals as goal
 
 waits : (d : Decision) (from kept : ℕ) (array new x exit : List ℕ) → length array ≡ held_max → from + kept ≤ held_max
@@ -22,9 +21,9 @@ waits : (d : Decision) (from kept : ℕ) (array new x exit : List ℕ) → lengt
     → x ≡ moved from kept array → exit ≡ placed kept new x → Decides d (take kept (drop from array)) new exit
 waits d from kept array new x exit size within fits none said one two =
     let held = take kept (drop from array) in
-    let count : length held ≡ kept = length-take-le kept (drop from array) (rw (length-drop from array) (omega arith)) in
-    let same : length x ≡ held_max = rw one (length_moved from kept array (omega arith) ∙ size) in
-    let front : take kept x ≡ held = rw one (rw count at (front_placed held array (omega (arith, count)))) in
+    let count : length held ≡ kept = length_part from kept array (rw size within) in
+    let same : length x ≡ held_max = rw one (length_moved from kept array (rw size within) ∙ size) in
+    let front : take kept x ≡ held = rw one (front_moved from kept array (rw size within)) in
     let sum : length (held ++ new) ≡ kept + length new = length-append held new ∙ rw count in
     gives_more d held new exit {e = 0} none (said.0, said.1, said.2, rw sum said.3)
     (rw (sum, two) (through_placed kept new x (omega arith) ∙ rw front))

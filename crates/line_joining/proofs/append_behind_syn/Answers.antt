@@ -1,27 +1,18 @@
 -- `line_joining::append_behind_syn` meets its contract: what stands behind SYN at the front, in one move.
-use Prim.Native.Nat.{ℕ, ◌+◌, ◌-◌, ◌≤◌, ◌<◌}
+use Prim.Native.Nat.{ℕ, ◌+◌, ◌-◌, ◌≤◌}
 use mathlib.Core.List.{List, ◌++◌}
 use mathlib.Core.Path.{◌≡◌}
 use native.Mathlib.Omega.{arith}
 use lib.ListN.{length, take, drop, length-drop}
-use lib.Seq.{length-take-le, drop-append-le, drop-append-add, drop-drop}
+use lib.Seq.{length-take-le, drop-append-le, drop-drop}
 use Rattle.message.specs.Writing.{placed}
-use Rattle.message.proofs.Buffer.{lent_from, tail, neighbours_front}
+use Rattle.message.proofs.Buffer.{neighbours_front}
 use Rattle.std.proofs.lemmas.List.{drop-take}
 use Rattle.line_joining.proofs.append_behind_syn.Goals as goal
 
 module _ (from kept : ℕ) (m l : List ℕ) (within : from + kept ≤ length l) where
   size : length (take kept (drop from l)) ≡ kept
   size = length-take-le kept (drop from l) (rw (length-drop from l) (omega arith))
-
-  -- a part of SYN is held at most
-  within-syn : {y : List ℕ} → kept < 2 → y ≡ placed 0 (lent_from (2 - kept) m) l → y
-      ≡ placed 0 (drop 2 (take kept (drop from l) ++ m)) l
-  within-syn few put =
-      let sum : length (take kept (drop from l)) + (2 - kept) ≡ 2 = omega (arith, size) in
-      let behind : drop 2 (take kept (drop from l) ++ m) ≡ drop (2 - kept) m =
-      rw sum at (drop-append-add (take kept (drop from l)) m (2 - kept)) in
-      rw behind (rw (tail (2 - kept) m) at put)
 
   -- SYN is held
   behind-syn : {x y : List ℕ} → 2 ≤ kept → kept + length m ≤ length l + 2 → x ≡ placed 0 (take (kept - 2) (drop (from + 2) l)) l
@@ -34,12 +25,6 @@ module _ (from kept : ℕ) (m l : List ℕ) (within : from + kept ≤ length l) 
       length-take-le (kept - 2) (drop (from + 2) l) (rw (length-drop (from + 2) l) (omega arith)) in
       rw (drop-append-le 2 (take kept (drop from l)) m (omega (arith, size)), part, second, first)
       (rw count at (neighbours_front (take (kept - 2) (drop (from + 2) l)) m l (omega (arith, count))))
-
-pub returns-then-held-lt-SYN_LENGTH : goal.returns-then-held-lt-SYN_LENGTH
-returns-then-held-lt-SYN_LENGTH c =
-    let a = c.args in
-    within-syn a.held.from a.held.count a.bytes.now a.array.now (omega arith) (omega arith)
-    c.put_at.ensures
 
 pub returns : goal.returns
 returns c =

@@ -1,4 +1,4 @@
--- `message_reader::apply_rules` meets its contract: each `return` is a case of `rules`, with the tests that led to it.
+-- `message_reader::apply_rules` meets its contract: rules 5 and 6, which compare what stands behind the header.
 use Prim.Native.Nat.{ℕ, ◌+◌}
 use mathlib.Core.List.{List}
 use mathlib.Core.Path.{◌≡◌, sym, ◌∙◌}
@@ -10,7 +10,7 @@ use Rattle.checksum.specs.Checksum.{checksum_of}
 use Rattle.message.specs.Bytes.{from_le16, header_length}
 use Rattle.message.specs.Items.{len_in, payload_in, payload_checksum_in}
 use Rattle.message.proofs.Buffer.{lent_from, tail}
-use Rattle.message.proofs.Rules.{rule_1, rule_2, rule_3, rule_4, rule_5, rule_6}
+use Rattle.message.proofs.Rules.{rule_5, rule_6}
 use Rattle.message_reader.proofs.apply_rules.Goals as goal
 
 -- what is compared behind the header
@@ -21,37 +21,6 @@ compared : (n : ℕ) (xs : List ℕ) → n ≡ len_in xs
 compared n xs count =
     let next : header_length + (n + 1) ≡ header_length + n + 1 = omega arith in
     rw (tail header_length xs, get_or-drop header_length xs n 0, get_or-drop header_length xs (n + 1) 0, next, count)
-
-pub returns-then-rest-lt-HEADER_LENGTH : goal.returns-then-rest-lt-HEADER_LENGTH
-returns-then-rest-lt-HEADER_LENGTH c n =
-    let a = c.args in
-    sym (rule_1 n a.rest.now (omega arith))
-
-pub returns-then-not-sound : goal.returns-then-not-sound
-returns-then-not-sound c n =
-    let a = c.args in
-    c.found.ensures n
-    ∙ sym
-    (rule_2 n a.rest.now (omega arith)
-    (sym c.header_is_sound-sound.ensures ∙ c.if-not-sound.true))
-
-pub returns-then-not-fine : goal.returns-then-not-fine
-returns-then-not-fine c n =
-    let a = c.args in
-    c.found-then-not-fine.ensures n
-    ∙ sym
-    (rule_3 n a.rest.now (omega arith)
-    (sym c.header_is_sound-sound.ensures ∙ c.if-not-sound.false)
-    (rw c.len_in-len.ensures.0 at (sym c.is_allowed-fine.ensures ∙ c.if-not-fine.true)))
-
-pub returns-then-rest-total : goal.returns-then-rest-total
-returns-then-rest-total c n =
-    let a = c.args in
-    sym
-    (rule_4 n a.rest.now (omega arith)
-    (sym c.header_is_sound-sound.ensures ∙ c.if-not-sound.false)
-    (rw c.len_in-len.ensures.0 at (sym c.is_allowed-fine.ensures ∙ c.if-not-fine.false))
-    (omega (arith, c.len_in-len.ensures.0, c.total_length-total.ensures)))
 
 pub returns-then-not-payload_is_sound : goal.returns-then-not-payload_is_sound
 returns-then-not-payload_is_sound c n =
