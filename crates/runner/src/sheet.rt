@@ -1,5 +1,7 @@
 // Lines to a writer, many at a time: they wait in a vector of fixed room until there is none for one more.
-ghost use Rattle.std.specs.Prelude.{◌≡◌, []};
+ghost use Rattle.std.specs.Prelude.{◌≡◌, [], OnOk};
+ghost use Rattle.std.specs.Io.KnownBytes.{Appends};
+ghost use Rattle.runner.specs.Room.{writes, waits};
 
 use arrayvec::ArrayVec;
 use std::io;
@@ -30,7 +32,11 @@ impl Sheet {
     }
 
     // A line joins those that wait; where there might be no room for it, those are written first, and it waits alone.
-    pub(crate) fn add<W: Write>(&mut self, output: &mut W, line: &Line) -> io::Result<()> {
+    #[tactic(auto, unfolding(crate::specs::Room::writes, crate::specs::Room::waits))]
+    pub(crate) fn add<W: Write>(&mut self, output: &mut W, line: &Line) -> io::Result<()>
+        ensures joins { OnOk result (self.new.lines.items ≡ waits self.old.lines.items line.now.items) }
+        ensures written { OnOk result (Appends (W.contents output.old) (W.contents output.new) (writes self.old.lines.items)) }
+    {
         if self.lines.remaining_capacity() < LINE_ROOM {
             self.write_out(output)?;
         }
@@ -40,7 +46,8 @@ impl Sheet {
 
     // Writes the lines that wait.
     pub(crate) fn write_out<W: Write>(&mut self, output: &mut W) -> io::Result<()>
-        ensures { self.new.lines.items ≡ [] }
+        ensures written { OnOk result (Appends (W.contents output.old) (W.contents output.new) self.old.lines.items) }
+        ensures empty { self.new.lines.items ≡ [] }
     {
         write_out(output, &mut self.lines)
     }
