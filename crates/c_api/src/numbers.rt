@@ -10,7 +10,7 @@ use message::{Item, Reading, WriteError};
 
 // What `fizrahum_read` answers.
 // Stays: numbers, since C functions answer them.
-#[derive(Drop)]
+#[derive(Default, Drop)]
 pub(crate) struct Numbers {
     pub rule: u8,
     pub kind: u8,
@@ -66,12 +66,9 @@ fn of_no_message(rule: u8, dropped: usize, removed: usize) -> Numbers
 {
     Numbers {
         rule,
-        kind: 0,
-        seq: 0,
-        payload: 0,
-        len: 0,
         dropped,
         removed,
+        ..Numbers::default()
     }
 }
 

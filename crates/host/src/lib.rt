@@ -2,7 +2,8 @@
 // `requires`: any endpoint, store, bytes, buffers and clock may be handed in. Each contract has two parts: what the call promises by
 // itself, and that it extends every list of calls from open on which ends in the endpoint and the store handed in: the list with this
 // call and its own outcome meets demand 3 (`Demand3`, `host_claims/specs/Claims.antt`).
-// Stays: an endpoint and its store are two parameters, since any store may be lent beside any endpoint.
+// Stays: an endpoint, its store and what a call is lent are parameters one by one, since each call brings its own, and any store may be lent
+// beside any endpoint.
 #![tactic(auto)]
 
 mod opening; // a fresh endpoint

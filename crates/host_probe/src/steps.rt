@@ -25,7 +25,7 @@ pub(crate) struct Tally {
 
 // The number with an answer more: the place of each counts.
 fn counted(sum: u64, answer: u64) -> u64 {
-    std::num::wrapping_add_u64((sum << 5) ^ (sum >> 59), answer)
+    ((sum << 5) ^ (sum >> 59)).wrapping_add(answer)
 }
 
 // A byte of a lent buffer, as it counts: the compiler may leave out what nobody reads.

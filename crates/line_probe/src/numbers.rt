@@ -11,7 +11,7 @@ use message::Item;
 
 // What the probe answers.
 // Stays: numbers, since C functions answer them.
-#[derive(Drop)]
+#[derive(Default, Drop)]
 pub(crate) struct Numbers {
     pub rule: u8,
     pub kind: u8,
@@ -59,10 +59,8 @@ fn of_no_message(rule: u8, taken: usize, held: usize) -> Numbers
 {
     Numbers {
         rule,
-        kind: 0,
-        seq: 0,
-        len: 0,
         taken,
         held,
+        ..Numbers::default()
     }
 }

@@ -5,6 +5,7 @@ ghost use Rattle.script.specs.Reading.{value_from};
 use script_bytes::faults::Fault;
 
 // The value of a field, at most `most`, or what is wrong with it.
+// Stays: digit by digit and no `parse`, which takes a sign and leading zeros too, and tells no fault of a script.
 #[tactic(auto, using(crate::proofs::Digits::value_step, crate::proofs::Digits::value_end))]
 pub(crate) fn value_of(digits: &[u8], most: u64) -> Result<u64, Fault>
     ensures within { IfOk result (λ value. value ≤ most) }

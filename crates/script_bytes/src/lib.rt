@@ -35,6 +35,7 @@ pub fn decode(digits: &[u8], bytes: &mut [u8]) -> Result<usize, Fault>
 }
 
 // The value of a lowercase hexadecimal digit.
+// Stays: a match and no `to_digit`, which takes uppercase letters too.
 #[tactic(auto, using(crate::proofs::Digits::hex_low, crate::proofs::Digits::hex_high))]
 fn digit_of(byte: u8) -> Option<u8>
     ensures below { IfSome result (λ digit. digit < 16) }

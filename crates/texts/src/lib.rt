@@ -1,5 +1,6 @@
 // Words, numbers and bytes as text, each put behind what a vector of fixed room holds: for the lines of a transcript and of a
 // listing. Each asks for room, which the caller has seen to.
+// Stays: room is a clause and no type, here and in the crates above, since each function uses up another part of it.
 #![tactic(auto)]
 
 ghost use Rattle.std.specs.Prelude.{◌≡◌, ◌++◌, ◌+◌, ◌≤◌, length};

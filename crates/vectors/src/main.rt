@@ -19,7 +19,7 @@ fn main(rt: HostRuntime) -> io::Result<()> {
 }
 
 fn print_vector(rt: &impl Print, bytes: &[u8]) -> io::Result<()> {
-    if bytes.len() == 0 {
+    if bytes.is_empty() {
         print!(rt; "-")?;
     }
     print_bytes(rt, bytes)?;
