@@ -59,11 +59,12 @@ fn accept(
         state: State::Queued,
     };
     let live = accepted.live().joined(store, it, data);
+    let next = id_after(reserved, id);
     Submitted {
         answer: Ok(id),
         endpoint: Endpoint {
             live: live.requests,
-            next: id_after(reserved, id),
+            next,
             clock: accepted.clock,
             ..e
         },
