@@ -27,7 +27,7 @@ const HEADER_BEHIND_SYN: usize = 6;
 // The item that a part of the array and the new bytes decide. SYN stands in front of the part, or its first byte.
 // For the crate above, which has dropped what stands before SYN and tested that the next byte does not break it.
 // Ruled out: a message that is whole and waits for one byte more, and a damaged one behind which the search goes on.
-// Stays: array, held and new side by side in six functions: at exit, contracts name what a struct holds as `self.exit.0.now` and the like.
+// Stays: array, held and new side by side: of a struct that holds the lent array, each contract would say `self.exit.0.now` at exit.
 pub fn join(array: &mut [u8; HELD_MAX], held: Part, new: &[u8]) -> Decision
     requires { (0 < held.count) × (scan (bytes_of held array.old) ≡ undecided 0)
         × (breaks held.count new.now ≡ false) }

@@ -11,21 +11,11 @@ use Rattle.message.specs.Bytes.{syn1, syn2, syn}
 use Rattle.message.specs.Items.{stands, dropped}
 use Rattle.message.proofs.Headers.{both}
 
--- the cases of `dropped`
-pub dropped_none : (xs : List ℕ) → length xs ≤ 0 → dropped xs ≡ 0
-unfolding dropped
-dropped_none [] h = refl
-dropped_none (x ∷ xs) h = absurd (omega arith)
-
+-- where SYN stands in front, none is dropped
 pub dropped_here : (xs : List ℕ) → stands xs ≡ true → dropped xs ≡ 0
 unfolding dropped
 dropped_here [] h = refl
 dropped_here (x ∷ xs) h = rw h
-
-pub dropped_next : (xs : List ℕ) → 0 < length xs → stands xs ≡ false → dropped xs ≡ suc (dropped (drop 1 xs))
-unfolding dropped
-dropped_next [] some h = absurd (omega arith)
-dropped_next (x ∷ xs) some h = rw h
 
 -- so many are dropped as stand before the first place at which SYN stands
 pub dropped_before : (xs : List ℕ) (i : ℕ) → i ≤ length xs → (i < length xs → stands (drop i xs) ≡ true)
