@@ -20,8 +20,7 @@ pub fn place_of(row: usize) -> usize
 }
 
 // Puts data into a room.
-// Stays: the length of the data as a clause, here and in `Live::joined`: a type around the slice would be made in the submit, which has
-// refused what is longer, and opened here, and no function between the two would be shorter.
+// Stays: the length of the data is a clause: a type around the slice, made in the submit and opened here, would shorten nothing between.
 pub(crate) fn fill(store: &mut [u8; STORE_LENGTH], row: usize, data: &[u8])
     requires { (row < live_max) × (length «data».now ≤ max_data) }
     ensures { store.new ≡ placed (room_place row) «data».now store.old }

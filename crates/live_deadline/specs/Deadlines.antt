@@ -22,5 +22,6 @@ IsInTime clock queued = Unit
 IsInTime clock (in_flight f) = f.sent ≤ clock
 IsInTime clock (waiting since) = since ≤ clock
 
+-- no time of these requests is later
 abbrev pub NoneLate : (clock : ℕ) → List Request → Type 0
 NoneLate clock rows = All (λ q. IsInTime clock (state_of q.state)) rows

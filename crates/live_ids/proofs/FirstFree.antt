@@ -28,6 +28,8 @@ module _ (r : ℕ) (live : List ledger.Request) (id : ℕ) where
   free_on zero less h = absurd (omega arith)
   free_on (suc n) less h = let same : suc n - 1 ≡ n = omega arith in rw (h, same)
 
+pub ruleset free = (free_here, free_on, free_end)
+
 -- it is the same without the data of the requests
 pub free_rows : (n r : ℕ) (rows : List Request) (k : ℕ) (store : List ℕ) (id : ℕ)
     → first_free n r (requests_from k rows store) id ≡ first_free n r (bare_of rows) id

@@ -13,6 +13,7 @@ use malformed_rule::is_among;
 
 // The first ID that none of these rows has, from one on: no more are passed over than there are rows.
 // Ruled out: an ID that is live, and 0 after 65535.
+#[tactic(auto, using(crate::proofs::FirstFree::free))]
 pub fn first_free(rows: &[Request], reserved: u8, from: RequestId) -> RequestId
     ensures { result.0 ≡ first_free (length rows.now) reserved (bare_of rows.now) from.0 }
 {

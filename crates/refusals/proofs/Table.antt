@@ -24,6 +24,30 @@ pub no_line : first_of [] ≡ none
 unfolding first_of
 no_line = refl
 
+-- what is refused by them alone is refused before others
+two_first : (m late : Bool) (own : List Line) (n : ℕ) → first_of (line 1 m ∷ line 2 late ∷ []) ≡ some n
+    → first_of (line 1 m ∷ line 2 late ∷ own) ≡ some n
+unfolding first_of
+two_first true late own n h = h
+two_first false true own n h = h
+two_first false false own n h = let z : ◌≡◌ {A = ℕ} 0 1 = cc in absurd (omega arith)
+
+pub refused_first : (e : Endpoint) (clock : ℕ) (own : List Line) (n : ℕ) → first_of (with_endpoint e clock []) ≡ some n
+    → first_of (with_endpoint e clock own) ≡ some n
+refused_first e clock own n h = two_first (malformed e) (ltb clock e.clock) own n h
+
+-- and what they let through is up to the others
+two_later : (m late : Bool) (own : List Line) → first_of (line 1 m ∷ line 2 late ∷ []) ≡ none
+    → first_of (line 1 m ∷ line 2 late ∷ own) ≡ first_of own
+unfolding first_of
+two_later true late own h = let z : ◌≡◌ {A = ℕ} 0 1 = cc in absurd (omega arith)
+two_later false true own h = let z : ◌≡◌ {A = ℕ} 0 1 = cc in absurd (omega arith)
+two_later false false own h = refl
+
+pub passed_first : (e : Endpoint) (clock : ℕ) (own : List Line) → first_of (with_endpoint e clock []) ≡ none
+    → first_of (with_endpoint e clock own) ≡ first_of own
+passed_first e clock own h = two_later (malformed e) (ltb clock e.clock) own h
+
 -- where no line holds, neither of the two does, and the others do not
 pub record Passed (own : List Line) (m late : Bool) : Type 0 where
   pub fine : m ≡ false
