@@ -66,17 +66,17 @@ pub fn deliver<'a>(
 // live requests change.
 // Ruled out: *more* answered for an item, and held bytes that are lost.
 pub fn act(
-    accepted: &Accepted,
+    accepted: Accepted,
     store: &mut [u8; STORE_LENGTH],
     decision: Decision,
     verdict: Verdict,
     replied: usize,
 ) -> Received
-    requires { (decision.start + decision.count ≤ held_max) × Names verdict.change accepted.now.e.live.count }
+    requires { (decision.start + decision.count ≤ held_max) × Names verdict.change accepted.e.live.count }
     ensures { (before new words payload reply buffer : List ℕ)
-        → DecidesIn decision accepted.now.e.held new before store.old → length words ≡ replied
-        → Does (received_as (ledger_of accepted.now.e before) (line.receive (take accepted.now.e.held before) new)
-        (act_of verdict words payload (live_of accepted.now.e.live before)) reply buffer accepted.now.clock)
+        → DecidesIn decision accepted.e.held new before store.old → length words ≡ replied
+        → Does (received_as (ledger_of accepted.e before) (line.receive (take accepted.e.held before) new)
+        (act_of verdict words payload (live_of accepted.e.live before)) reply buffer accepted.clock)
         (receive_result result store.new (placed 0 words reply) (placed 0 (bytes_for verdict.word payload) buffer)) }
 {
     let held = settle_in(store, decision);

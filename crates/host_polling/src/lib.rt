@@ -30,15 +30,15 @@ pub fn poll_in(e: Endpoint, store: &mut [u8; STORE_LENGTH], output: &mut [u8], c
 {
     match check_poll(e, output.len(), clock) {
         Err(refusal) => Polled::refused(e, refusal),
-        Ok(()) => accept(&Accepted { e, clock }, store, output),
+        Ok(()) => accept(Accepted { e, clock }, store, output),
     }
 }
 
 // A poll that the table does not refuse.
 // Stays: the clause `total max_len ≤ length output.old`, as for `frames::put_command`.
-fn accept(accepted: &Accepted, store: &mut [u8; STORE_LENGTH], output: &mut [u8]) -> Polled
+fn accept(accepted: Accepted, store: &mut [u8; STORE_LENGTH], output: &mut [u8]) -> Polled
     requires { total max_len ≤ length output.old }
-    ensures { Does (ledger.poll (ledger_of accepted.now.e store.old) output.old accepted.now.clock)
+    ensures { Does (ledger.poll (ledger_of accepted.e store.old) output.old accepted.clock)
         (poll_result result store.new output.new) }
 {
     let seq = accepted.e.seq;
@@ -54,11 +54,11 @@ fn accept(accepted: &Accepted, store: &mut [u8; STORE_LENGTH], output: &mut [u8]
 }
 
 // The request in a row ends.
-// Stays: the clause `row < accepted.now.e.live.count`, as for `live_changes::Live::carry_out`.
-fn end(accepted: &Accepted, store: &mut [u8; STORE_LENGTH], row: usize, cause: Cause) -> Polled
-    requires { row < accepted.now.e.live.count }
-    ensures { (output : List ℕ) → Does (polled_as (ledger_of accepted.now.e store.old)
-        (step_of (Some (End row cause)) (ledger_of accepted.now.e store.old) accepted.now.clock) output accepted.now.clock)
+// Stays: the clause `row < accepted.e.live.count`, as for `live_changes::Live::carry_out`.
+fn end(accepted: Accepted, store: &mut [u8; STORE_LENGTH], row: usize, cause: Cause) -> Polled
+    requires { row < accepted.e.live.count }
+    ensures { (output : List ℕ) → Does (polled_as (ledger_of accepted.e store.old)
+        (step_of (Some (End row cause)) (ledger_of accepted.e store.old) accepted.clock) output accepted.clock)
         (poll_result result store.new output) }
 {
     let before = accepted.live();
@@ -76,9 +76,9 @@ fn end(accepted: &Accepted, store: &mut [u8; STORE_LENGTH], row: usize, cause: C
 
 // Nothing is due.
 #[tactic(auto, using(refinement::proofs::Times::none_late))]
-fn quiet(accepted: &Accepted) -> Polled
-    ensures { (store output : List ℕ) → Does (polled_as (ledger_of accepted.now.e store)
-        (step4 (ledger_of accepted.now.e store) accepted.now.clock) output accepted.now.clock)
+fn quiet(accepted: Accepted) -> Polled
+    ensures { (store output : List ℕ) → Does (polled_as (ledger_of accepted.e store)
+        (step4 (ledger_of accepted.e store) accepted.clock) output accepted.clock)
         (poll_result result store output) }
 {
     let time = time_left(accepted.e.live, accepted.clock);

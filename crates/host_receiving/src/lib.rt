@@ -34,7 +34,7 @@ pub fn receive_in(
 {
     match check_receive(e, reply.len(), buffer.len(), clock) {
         Err(refusal) => Received::refused(e, refusal),
-        Ok(()) => accept(&Accepted { e, clock }, store, bytes, reply, buffer),
+        Ok(()) => accept(Accepted { e, clock }, store, bytes, reply, buffer),
     }
 }
 
@@ -42,15 +42,15 @@ pub fn receive_in(
 // Stays: the clause `total 0 ≤ length reply.old`, as for `frames::put_ack`.
 #[tactic(auto, using(refinement::proofs::Sound::held_of))]
 fn accept(
-    accepted: &Accepted,
+    accepted: Accepted,
     store: &mut [u8; STORE_LENGTH],
     bytes: &[u8],
     reply: &mut [u8],
     buffer: &mut [u8],
 ) -> Received
     requires { (total 0 ≤ length reply.old) × (max_data ≤ length buffer.old) }
-    ensures { Does (ledger.receive (ledger_of accepted.now.e store.old) bytes.now reply.old
-        buffer.old accepted.now.clock) (receive_result result store.new reply.new buffer.new) }
+    ensures { Does (ledger.receive (ledger_of accepted.e store.old) bytes.now reply.old
+        buffer.old accepted.clock) (receive_result result store.new reply.new buffer.new) }
 {
     let e = accepted.e;
     let decision = decide_in(store, e.held, bytes);

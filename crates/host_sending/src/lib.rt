@@ -25,19 +25,19 @@ use message::Seq;
 // The frame of the request in a row goes out, and is in flight.
 // Ruled out: an ending answered for a frame that was sent, and a count of transmissions that is not the frame's.
 // Stays: the clause `total max_len ≤ length output.old`, as for `frames::put_command`.
-// Stays: the clause `row < accepted.now.e.live.count`, as for `live_changes::Live::carry_out`.
+// Stays: the clause `row < accepted.e.live.count`, as for `live_changes::Live::carry_out`.
 pub fn send(
-    accepted: &Accepted,
+    accepted: Accepted,
     store: &mut [u8; STORE_LENGTH],
     output: &mut [u8],
     row: usize,
     frame: Frame,
     next: Seq,
 ) -> Polled
-    requires { (row < accepted.now.e.live.count) × (total max_len ≤ length output.old) }
-    ensures { Does (polled_as (ledger_of accepted.now.e store.old)
-        (sent_from (ledger_of accepted.now.e store.old) accepted.now.clock (frame_of frame) next.0 row) output.old
-        accepted.now.clock) (poll_result result store.new output.new) }
+    requires { (row < accepted.e.live.count) × (total max_len ≤ length output.old) }
+    ensures { Does (polled_as (ledger_of accepted.e store.old)
+        (sent_from (ledger_of accepted.e store.old) accepted.clock (frame_of frame) next.0 row) output.old
+        accepted.clock) (poll_result result store.new output.new) }
 {
     let before = accepted.live();
     let sent = put_frame(before, store, output, row, frame);

@@ -31,22 +31,22 @@ pub fn submit_in(
 {
     match check_submit(e, data.len(), clock) {
         Err(refusal) => Submitted::refused(e, refusal),
-        Ok(()) => accept(&Accepted { e, clock }, store, fields, data, wanted),
+        Ok(()) => accept(Accepted { e, clock }, store, fields, data, wanted),
     }
 }
 
 // A submit that the table does not refuse: "The request joins as queued."
 // Stays: the clause `length «data».now ≤ max_data`, as for `frames::put_command`.
 fn accept(
-    accepted: &Accepted,
+    accepted: Accepted,
     store: &mut [u8; STORE_LENGTH],
     fields: Fields,
     data: &[u8],
     wanted: bool,
 ) -> Submitted
-    requires { (length «data».now ≤ max_data) × (accepted.now.e.live.count < live_max) }
-    ensures { Does (ledger.submit (ledger_of accepted.now.e store.old) (fields_of fields) «data».now wanted
-        accepted.now.clock) (submit_result result store.new) }
+    requires { (length «data».now ≤ max_data) × (accepted.e.live.count < live_max) }
+    ensures { Does (ledger.submit (ledger_of accepted.e store.old) (fields_of fields) «data».now wanted
+        accepted.clock) (submit_result result store.new) }
 {
     let e = accepted.e;
     let reserved = accepted.reserved();

@@ -10,6 +10,6 @@ returns c first new words payload reply buffer decides size =
     let after = c.carry_out-live in
     let settles : Settled a.decision settled.result a.store.now settled.new.store =
     record { counts = settled.ensures.0; stands = settled.ensures.1; rooms = settled.ensures.2 } in
-    acted a.accepted.now a.decision a.verdict c.ending_of-ending.result before.result.requests after.result.requests settled.result
+    acted a.accepted a.decision a.verdict c.ending_of-ending.result before.result.requests after.result.requests settled.result
     a.replied first new a.store.now settled.new.store _ words payload reply buffer before.ensures decides size settles
     c.ending_of-ending.ensures after.ensures

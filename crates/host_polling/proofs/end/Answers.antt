@@ -7,5 +7,5 @@ returns c output =
     let a = c.args in
     let before = c.live-before in
     let after = c.carry_out-live in
-    ended a.accepted.now a.store.now a.row a.cause before.result.requests after.result.requests after.new.store output before.ensures
+    ended a.accepted a.store.now a.row a.cause before.result.requests after.result.requests after.new.store output before.ensures
     before.type_inv.1.1.0.1.1.0.1.0.1 c.requires after.ensures

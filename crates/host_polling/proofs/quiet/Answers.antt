@@ -4,4 +4,4 @@ use Rattle.host_polling.proofs.quiet.Goals as goal
 
 pub returns : goal.returns
 returns c store output =
-    quiet_law c.args.accepted.now store c.time_left-time.result output c.time_left-time.ensures
+    quiet_law c.args.accepted store c.time_left-time.result output c.time_left-time.ensures

@@ -5,6 +5,6 @@ use Rattle.host_sending.proofs.send.Goals as goal
 pub returns : goal.returns
 returns c =
     let a = c.args in
-    sent a.accepted.now a.store.now a.row a.frame a.next c.put_frame-sent.result c.live-before.result.requests
+    sent a.accepted a.store.now a.row a.frame a.next c.put_frame-sent.result c.live-before.result.requests
     c.carry_out-live.result.requests c.carry_out-live.new.store a.output.now c.put_frame-sent.new.output c.live-before.ensures
     c.put_frame-sent.ensures c.carry_out-live.ensures

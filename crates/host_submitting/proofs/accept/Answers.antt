@@ -5,6 +5,6 @@ use Rattle.host_submitting.proofs.accept.Goals as goal
 pub returns : goal.returns
 returns c =
     let a = c.args in
-    joined a.accepted.now a.fields a.wanted a.store.now a.«data».now c.in_use.result.now c.reserved-reserved.result
+    joined a.accepted a.fields a.wanted a.store.now a.«data».now c.in_use.result.now c.reserved-reserved.result
     c.live.result.requests c.in_use.ensures c.reserved-reserved.ensures c.live.ensures c.first_free-id.result c.id_after-next.result
     c.joined-live.result.requests c.joined-live.new.store c.first_free-id.ensures c.joined-live.ensures c.id_after-next.ensures
