@@ -10,14 +10,11 @@ use Rattle.std.specs.Prelude.{Some, None, Ok}
 use Rattle.message.specs.Bytes.{total, max_len}
 use Rattle.message.specs.declared.Seq.{Seq}
 use Rattle.line.specs.Receiving.{held_max}
-use Rattle.link.specs.Frames as link
-use Rattle.link.specs.Frames.{first_sent}
 use Rattle.link.specs.Promises.{frame_of}
-use Rattle.link.specs.SequenceIds.{seq_after}
 use Rattle.link.specs.declared.frame.Frame.{Frame}
 use Rattle.ledger.specs.Parts.{live_max}
 use Rattle.ledger.specs.Answers.{polled, quiet}
-use Rattle.ledger.specs.Polling.{frame_bytes, earliest, step4, polled_as, poll}
+use Rattle.ledger.specs.Polling.{frame_bytes, earliest, step4, polled_as}
 use Rattle.ledger.specs.Refusals.{line, first_of}
 use Rattle.ledger.specs.declared.Cause.{Cause}
 use Rattle.endpoint.specs.Endpoint.{rows_of, live_of, ledger_of}
@@ -34,12 +31,11 @@ use Rattle.std.specs.Prelude as std
 use Rattle.live_deadline.specs.Deadlines.{time_of, left_of}
 use Rattle.live_deadline.proofs.Times.{earliest_rows}
 use Rattle.frames.specs.Promises.{Put}
-use Rattle.decisions_poll.specs.Steps.{step_of, sent_from, Reaches, Steps}
-use Rattle.decisions_poll.specs.declared.Step.{Step}
+use Rattle.decisions_poll.specs.Steps.{step_of, sent_from}
 use Rattle.decisions_poll.specs.declared.Step.TheVariants as step
 use Rattle.refinement.proofs.Sound.{held_of, fits_of}
 use Rattle.host_answers.specs.Answers.{poll_answer_of}
-use Rattle.host_answers.specs.Promises.{Result, poll_result}
+use Rattle.host_answers.specs.Promises.{poll_result}
 use Rattle.refusals.specs.Code.{with_endpoint}
 use Rattle.host_answers.specs.Code.{Does}
 use Rattle.host_answers.specs.declared.accepted.Accepted.{Accepted}

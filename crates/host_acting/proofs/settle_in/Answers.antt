@@ -1,5 +1,5 @@
 -- `host_acting::settle_in` meets its contract: the front of the store is lent.
-use mathlib.Core.Path.{◌≡◌, sym, ◌∙◌}
+use mathlib.Core.Path.{◌≡◌, ◌∙◌}
 use native.Mathlib.Omega.{arith}
 use lib.ListN.{length}
 use Rattle.line.specs.Receiving.{held_max}
