@@ -9,7 +9,7 @@ use message::header::HEADER_LENGTH;
 use message::{Item, Reading, WriteError};
 
 // What `fizrahum_read` answers.
-// Stays: numbers, since C functions answer them.
+// Stays: numbers, since the C function `fizrahum_read` answers and sets them.
 #[derive(Default, Drop)]
 pub(crate) struct Numbers {
     pub rule: u8,
@@ -22,6 +22,7 @@ pub(crate) struct Numbers {
 }
 
 // The length, or the refusal's number.
+// Stays: 7 and 6 by a match, since the edits `refusals-swapped` and `definition-refusal-as-length` of this crate exchange them here.
 pub(crate) fn of_written(written: Result<usize, WriteError>) -> usize
     ensures { result ≡ number_of (answer_of written) }
 {

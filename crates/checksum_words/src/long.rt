@@ -16,6 +16,7 @@ struct Four {
 }
 
 // The register after words behind two.
+// Stays: a loop beside that of `words::after`: a trait with the step and the end of both, and their laws, would be longer.
 pub(crate) fn after(first: Two, bytes: &[u8]) -> u16
     requires { length bytes.now % 8 ≡ 0 }
     ensures { result ≡ checksum_from (remainder 128 (two_words first.high first.low)) bytes.now }

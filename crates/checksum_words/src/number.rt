@@ -3,7 +3,7 @@ ghost use Rattle.std.specs.Prelude.{◌≡◌, ◌+◌, ◌≤◌, length, take,
 ghost use Rattle.checksum_words.specs.Remainders.{number, number_from};
 
 // The two bytes from a place on.
-// Stays: three functions of a line each and no generic one, since std has no trait that says `from_be_bytes` of each type.
+// Stays: a function for each type, since std has no trait of `from_be_bytes`; with an array of N bytes each caller would turn it into a number.
 pub(crate) fn pair(bytes: &[u8], at: usize) -> u16
     requires { at + 2 ≤ length bytes.now }
     ensures { result ≡ number (take 2 (drop at bytes.now)) }

@@ -38,6 +38,7 @@ pub enum State {
 
 // A live request: its ID, the fields it was submitted with, whether a response is wanted, how many bytes of data it has, and where
 // it stands. The data of the request in row i are in room i of the store.
+// Stays: `len` here and the bytes in a room: an endpoint is handed on by value, and `host::submit` takes any store beside it.
 #[derive(Clone, Copy, Default)]
 pub struct Request {
     pub id: RequestId,
@@ -58,7 +59,7 @@ impl HasId for Request {
 }
 
 // The live requests, oldest first: the first `count` rows. By default there are none.
-// Stays: an array with a count and no vector of fixed room, since the malformed rule is about a count over LIVE_MAX too.
+// Stays: an array with a count and no vector of fixed room, since `malformed_rule::is_malformed` answers of a count over LIVE_MAX too.
 #[derive(Clone, Copy, Default)]
 pub struct Requests {
     pub rows: [Request; LIVE_MAX],

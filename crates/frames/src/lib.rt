@@ -16,8 +16,8 @@ use message::header::{ACK, DATA_SEQ, HEADER_LENGTH, NAK};
 // room for the longest message and have refused data that is too long.
 // Ruled out: another TYPE or SEQ, and a byte touched behind the frame.
 // Stays: the clause `total max_len ≤ length output.old` may not ask more: callers lend a buffer of any length from 266 on, and an array
-// has one. `host_sending` and `host_polling`, which hand the buffer on, repeat it.
-// Stays: the clause `length «data».now ≤ max_data` may not ask more: callers hand in a slice, and a type around it is built by them first.
+// has one length. `host_sending` and `host_polling`, which hand the buffer on, repeat it.
+// Stays: the clause `length «data».now ≤ max_data` may not ask more: callers hand in a slice, and a type around it would ask them for one.
 pub fn put_command(output: &mut [u8], seq: Seq, head: Head, data: &[u8]) -> usize
     requires { (total max_len ≤ length output.old) × (length «data».now ≤ max_data) }
     ensures { Put result (message data_seq seq.0 (payload (fields_of head.fields) head.id.0 «data».now))
@@ -29,7 +29,7 @@ pub fn put_command(output: &mut [u8], seq: Seq, head: Head, data: &[u8]) -> usiz
 
 // Puts an ACK with this SEQ at the front of the reply, and answers its length. For the ends of the line, which lend room for it.
 // Ruled out: an ACK with another SEQ, and a reply of more than its ten bytes.
-// Stays: the clause `total 0 ≤ length reply.old` may not ask more: callers lend a buffer of any length from ten on, and an array has one.
+// Stays: the clause `total 0 ≤ length reply.old` may not ask more: callers lend a buffer of any length from ten on, and an array has one length.
 pub fn put_ack(reply: &mut [u8], seq: Seq) -> usize
     requires { total 0 ≤ length reply.old }
     ensures { Put result (message ack seq.0 []) reply.old reply.new }

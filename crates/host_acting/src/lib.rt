@@ -65,6 +65,7 @@ pub fn deliver<'a>(
 // Carries out what an item does, when the store is as the line's decision left it: the bytes to be held go to the front, and the
 // live requests change.
 // Ruled out: *more* answered for an item, and held bytes that are lost.
+// Stays: the clause of `Names`, as for `live_changes::Live::carry_out`.
 pub fn act(
     accepted: Accepted,
     store: &mut [u8; STORE_LENGTH],

@@ -32,9 +32,8 @@ pub fn put_reply(reply: &mut [u8], item: Item) -> usize
     ensures { Put result (reply_for (item_of item)) reply.old reply.new }
 {
     match item {
-        Item::DamagedHeader => put_nak(reply),
+        Item::DamagedHeader | Item::DamagedPayload => put_nak(reply),
         Item::Forbidden => 0,
-        Item::DamagedPayload => put_nak(reply),
         Item::Message { kind, seq, len: _ } => acknowledge(reply, kind, seq),
     }
 }
@@ -52,7 +51,7 @@ fn acknowledge(reply: &mut [u8], kind: u8, seq: Seq) -> usize
 }
 
 // "Events and responses put their data at the front of the lent data buffer; no other item touches it."
-// For `host_receiving`, which lends room for them: the table has refused a smaller data buffer.
+// For `host_acting`, which lends room for them: the table has refused a smaller data buffer.
 // Ruled out: data of an unmatched message in the buffer, and data of an event or a response that stay out of it.
 #[tactic(auto, using(host_answers::proofs::Held::placed_none))]
 pub fn hand_over(buffer: &mut [u8], word: Option<Word>, body: &[u8])
@@ -73,8 +72,9 @@ fn put_data(buffer: &mut [u8], body: &[u8])
     byte_slices::copy(command::reader::data(body), buffer);
 }
 
-// The ending that a change makes. For `host_receiving`, whose change names a row in use: a search has found it.
+// The ending that a change makes. For `host_acting`, whose change names a row in use: a search has found it.
 // Ruled out: a request that leaves with no ending reported, and an ending with the ID of another.
+// Stays: the clause of `Names`, as for `live_changes::Live::carry_out`.
 pub fn ending_of(live: Requests, change: Option<Change>) -> Option<Ending>
     requires { (live.count ≤ live_max) × Names change live.count }
     ensures { (store : List ℕ) → ended_of result ≡ ending_by change (live_of live store) }

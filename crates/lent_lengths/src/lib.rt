@@ -37,8 +37,7 @@ fn handed_by(word: Option<Word>) -> usize
     ensures { result ≡ handed_by word }
 {
     match word {
-        Some(Word::Event(it)) => it.len,
-        Some(Word::Response(it)) => it.len,
+        Some(Word::Event(it) | Word::Response(it)) => it.len,
         _ => 0,
     }
 }

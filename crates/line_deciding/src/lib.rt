@@ -20,6 +20,7 @@ use message_reader::read;
 // The item that the array's first count bytes and the new ones decide, with all that a call gives. For the crates above, which
 // have refused a count over HELD_MAX: it is their malformed endpoint.
 // Ruled out: a damaged message that is removed whole, and a payload that begins where SYN stood.
+// Stays: the clause `count ≤ held_max`, here and in `found`: the C function `fizrahum_probe_receive` lends array and count.
 pub fn decide(array: &mut [u8; HELD_MAX], count: usize, new: &[u8]) -> Decision
     requires { count ≤ held_max }
     ensures decides { Decides result (take count array.old) new.now array.new }
@@ -43,10 +44,7 @@ fn without_dropped(array: &mut [u8; HELD_MAX], dropped: usize, count: usize, new
     ensures { Decides result (take count array.old) new.now array.new }
 {
     let kept = count - dropped;
-    if kept == 0 {
-        return in_new(array, new);
-    }
-    if breaks_syn(kept, new) {
+    if kept == 0 || breaks_syn(kept, new) {
         return in_new(array, new);
     }
     let held = Part {

@@ -27,7 +27,7 @@ const HEADER_BEHIND_SYN: usize = 6;
 // The item that a part of the array and the new bytes decide. SYN stands in front of the part, or its first byte.
 // For the crate above, which has dropped what stands before SYN and tested that the next byte does not break it.
 // Ruled out: a message that is whole and waits for one byte more, and a damaged one behind which the search goes on.
-// Stays: array, held and new side by side: of a struct that holds the lent array, each contract would say `self.exit.0.now` at exit.
+// Stays: array, held and new side by side: of a struct with the lent array each contract would say `self.exit.array.now` for `array.new`.
 pub fn join(array: &mut [u8; HELD_MAX], held: Part, new: &[u8]) -> Decision
     requires { (0 < held.count) × (scan (bytes_of held array.old) ≡ undecided 0)
         × (breaks held.count new.now ≡ false) }
@@ -88,7 +88,7 @@ fn header_item(array: &mut [u8; HELD_MAX], held: Part, item: Item, bytes: &[u8])
     }
 }
 
-// A header that is sound and allowed stands whole in the kept bytes and the new ones.
+// A header that is sound and allowed stands whole in the held bytes and the new ones.
 #[tactic(auto, using(line::proofs::Whole::waits_for, line::proofs::Whole::all_waits))]
 fn after_header(array: &mut [u8; HELD_MAX], held: Part, len: usize, new: &[u8]) -> Decision
     requires { (header_length ≤ held.count + length new.now)
@@ -141,7 +141,7 @@ fn whole_message(
     }
 }
 
-// No item: the kept bytes go to the front, and all new ones behind them.
+// No item: the held bytes go to the front, and all new ones behind them.
 fn all_wait(array: &mut [u8; HELD_MAX], held: Part, new: &[u8]) -> Decision
     requires { (held.count + length new.now ≤ held_max)
         × (scan (bytes_of held array.old ++ new.now) ≡ undecided 0) }
@@ -166,7 +166,7 @@ pub fn all_held(count: usize, taken: usize) -> Decision
     }
 }
 
-// The kept bytes and those behind them without SYN, which goes with every item, at the front. The longest message fits so.
+// The held bytes and those behind them without SYN, which goes with every item, at the front. The longest message fits so.
 fn append_behind_syn(array: &mut [u8; HELD_MAX], held: Part, bytes: &[u8])
     requires { (length syn ≤ held.count + length bytes.now)
         × (held.count + length bytes.now ≤ held_max + length syn) }

@@ -10,7 +10,7 @@ use line::Received;
 use message::Item;
 
 // What the probe answers.
-// Stays: numbers, since C functions answer them.
+// Stays: numbers, since the C function `fizrahum_probe_receive` answers and sets them.
 #[derive(Default, Drop)]
 pub(crate) struct Numbers {
     pub rule: u8,

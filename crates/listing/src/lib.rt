@@ -22,7 +22,7 @@ const PIECE_LENGTH: usize = 65536;
 const OUT_LENGTH: usize = 4096;
 
 // How far a listing is: the bytes that the line holds, at the front of an array, and the lines that wait.
-// Stays: an array with a count, since `line_receiving::receive` takes them so.
+// Stays: an array with a count, since `line_receiving::receive` takes an array and a count.
 #[derive(Drop)]
 struct Listing {
     held: [u8; HELD_MAX],

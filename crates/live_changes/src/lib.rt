@@ -33,7 +33,7 @@ pub struct Live {
 impl Live {
     // Carries out a change, if any. Asks for a row in use: a search has found it.
     // Ruled out: another request touched than the one named, and an ended request's data left to the next one.
-    // Stays: `row < count` is a clause, here and in the calls: a type of a row in use would hold the live requests a second time.
+    // Stays: `Names change count` and `row < count` are clauses, also in the crates above: a type of a row in use would hold the requests again.
     pub fn carry_out(self, store: &mut [u8; STORE_LENGTH], change: Option<Change>) -> Live
         requires { Names change self.requests.count }
         ensures { Becomes result.requests (changed change (live_of self.requests store.old)) store.old

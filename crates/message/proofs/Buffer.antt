@@ -5,7 +5,7 @@ use mathlib.Core.Path.{◌≡◌, refl, sym, ap, ◌∙◌}
 use native.Mathlib.Nat.{add-zero, zero-add}
 use native.Mathlib.Omega.{arith}
 use lib.ListN.{length, take, drop, length-append, length-take, length-drop, take-append-drop, drop_of_length-le}
-use lib.Seq.{take_all, take-length, take_at, drop_at, drop-drop, take-add}
+use lib.Seq.{take_all, take-nil, take-length, take_at, drop_at, drop-drop, take-add}
 use borrow.Rule.Slice.PartMut.{put_mid}
 use Rattle.message.specs.Writing.{placed}
 
@@ -19,6 +19,13 @@ given_back a l x = put_mid a (length l - a) l x
 -- a part from a place to the end is what is left after that place
 pub tail : (a : ℕ) (l : List ℕ) → lent_from a l ≡ drop a l
 tail a l = take_all (length l - a) (drop a l) (simp length-drop (omega arith))
+
+-- a part of n bytes: nothing past the end, and all from a place on where there are no more
+pub part_beyond : (n k : ℕ) (l : List ℕ) → length l ≤ k → [] ≡ take n (drop k l)
+part_beyond n k l h = rw (drop_of_length-le l {i = k} h, take-nil n)
+
+pub part_all : (n k : ℕ) (l : List ℕ) → length l ≤ k + n → lent_from k l ≡ take n (drop k l)
+part_all n k l h = rw (tail k l, take_all n (drop k l) (simp length-drop (omega arith)))
 
 -- the parts of a buffer in which bytes were placed
 module _ (a : ℕ) (m l : List ℕ) (fits : a + length m ≤ length l) where

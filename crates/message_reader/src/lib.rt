@@ -30,11 +30,13 @@ pub fn payload(bytes: &[u8], reading: Reading) -> &[u8]
     ensures { result.now ≡ part_with (scan_of reading) bytes.now }
 {
     let dropped = reading.dropped;
-    let Some(first) = reading.first else {
-        return &bytes[..0];
-    };
-    let Item::Message { len, .. } = first.item else {
-        // damaged or forbidden
+    let Some(
+        FirstItem {
+            item: Item::Message { len, .. },
+            ..
+        },
+    ) = reading.first
+    else {
         return &bytes[..0]; // of no message
     };
     part(bytes, dropped.saturating_add(HEADER_LENGTH), len)

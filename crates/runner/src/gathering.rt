@@ -36,7 +36,7 @@ impl Script {
 
     // Reads until the input ends or something is wrong. A proved loop has to end, and nothing says that an input does: so it counts
     // up to a number that no run reaches.
-    // Stays: the lister counts its turns likewise, but its contract says of them what was read and written.
+    // Stays: turns are counted here and in `listing`, whose clause `moves_all` says of them what was read and written: no one function has both.
     pub(crate) fn run<R: Read, W: Write>(
         &mut self,
         input: &mut R,

@@ -18,6 +18,6 @@ pub fn run_standard_input(rt: &(impl Input + Print + Eprint)) {
     let mut input = rt.reader();
     let mut output = io::writer(rt);
     if let Err(stop) = script.run(&mut input, &mut output) {
-        let _ = eprint!(rt; "session: {stop}\n");
+        let _ = eprintln!(rt; "session: {stop}");
     }
 }

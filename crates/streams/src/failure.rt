@@ -14,6 +14,7 @@ pub enum Failure {
     Endless,
 }
 
+// Stays: Display by hand, since the derive of `thiserror` has no `output`, by which the contract says the text.
 impl fmt::Display for Failure {
     ghost output = { λ f. Some (said f) };
 

@@ -1,6 +1,6 @@
 // Words, numbers and bytes as text, each put behind what a vector of fixed room holds: for the lines of a transcript and of a
 // listing. Each asks for room, which the caller has seen to.
-// Stays: room is a clause and no type, here and in the crates above, since each function uses up another part of it.
+// Stays: room is a clause and no type, here and in the crates above: each function uses up another part of `N`.
 #![tactic(auto)]
 
 ghost use Rattle.std.specs.Prelude.{◌≡◌, ◌++◌, ◌+◌, ◌≤◌, length};
@@ -18,6 +18,7 @@ pub fn put<const N: usize>(out: &mut ArrayVec<u8, N>, text: &[u8])
 }
 
 // A number in decimal, where there is room for its digits.
+// Stays: a buffer and a count, here and for a pair, as the kit's `io::decimal` and `io::hex` have them, whose contracts say the digits.
 // Ruled out: a number that lacks its last digit, and leading zeros.
 #[tactic(auto, using(crate::proofs::Putting::digits_of))]
 pub fn put_number<const N: usize>(out: &mut ArrayVec<u8, N>, n: u64)
