@@ -36,7 +36,7 @@ impl Place<'_> {
         let mut inside = None;
         let mut rest = code;
         for line in code.split_inclusive('\n') {
-            if let Some(of) = line.strip_prefix("impl ") {
+            if let Some(of) = impl_of(line) {
                 inside = of.split([' ', '<', '{']).next();
             } else if line.starts_with('}') {
                 inside = None;
@@ -71,6 +71,23 @@ impl Head<'_> {
     }
 }
 
+/// What an `impl` is of, behind its parameters, if it has some: `Reader<'a> {` of `impl<'a> Reader<'a> {`.
+fn impl_of(line: &str) -> Option<&str> {
+    let rest = line.strip_prefix("impl")?;
+    let behind = match rest.strip_prefix('<') {
+        Some(parameters) => {
+            let mut depth = 1;
+            let end = parameters.find(|c| {
+                depth += i32::from(c == '<') - i32::from(c == '>');
+                depth == 0
+            })?;
+            &parameters[end + 1..]
+        }
+        None => rest,
+    };
+    behind.strip_prefix(' ')
+}
+
 /// Whether two paths are of one function. A method's path may go by the module of its type or by that of its code.
 pub fn is_same(one: &str, other: &str) -> bool {
     let method_of = |path: &str| {
@@ -88,7 +105,7 @@ pub fn paths_in(file: &str, code: &str) -> Vec<String> {
     let mut inside = String::new();
     let mut in_tests = false;
     for line in code.lines() {
-        if let Some(of) = line.strip_prefix("impl ") {
+        if let Some(of) = impl_of(line) {
             inside = format!("::{}", type_in(of));
         } else if line.starts_with("#[cfg(test)]") {
             in_tests = true;
@@ -236,6 +253,13 @@ impl Shown for Frame {
     fn show(&self) {}
 }
 
+impl<T: Into<Seq>> Reader<'_, T> {
+    pub fn next(&mut self)
+        ensures { Read }
+    {
+    }
+}
+
 #[cfg(test)]
 mod tests {
     #[test]
@@ -268,7 +292,7 @@ fn last() {}
 
     #[test]
     fn public_functions() {
-        assert_eq!(public_in(CODE), ["first", "bare", "first", "exported"]);
+        assert_eq!(public_in(CODE), ["first", "bare", "first", "exported", "next"]);
         let code = "pub fn a(x: u8)\n    pub fn b<'a>(x: &'a u8)\nfn c()\npub(crate) fn d()\n#[unsafe(no_mangle)] pub extern \"C\" fn e(\npub const fn f()";
         assert_eq!(public_in(code), ["a", "b", "e", "f"]);
     }
@@ -276,7 +300,7 @@ fn last() {}
     #[test]
     fn every_function_by_its_path() {
         let paths = paths_in("crates/one/src/two.rt", CODE);
-        let wanted = ["first", "bare", "own", "Frame::first", "exported", "FrameShown::show", "last"];
+        let wanted = ["first", "bare", "own", "Frame::first", "exported", "FrameShown::show", "Reader::next", "last"];
         assert_eq!(paths, wanted.map(|name| format!("one::two::{name}")));
         assert_eq!(paths_in("crates/one/src/main.rt", "fn main() {}\n"), ["one::main"]);
         assert_eq!(paths_in("crates/one/src/a/b.rt", "fn c() {}\n"), ["one::a::b::c"]);
@@ -295,6 +319,7 @@ fn last() {}
     #[test]
     fn exactly_that_function() {
         assert_eq!(of("one::Frame::first").unwrap().ensures, [" Framed "]);
+        assert_eq!(of("one::Reader::next").unwrap().ensures, [" Read "]);
         assert_eq!(of("one::exported").unwrap().ensures, [" Exported "]);
         assert_eq!(of("one::bare"), Ok(Contract::default()));
         assert!(Place::of("one::own").unwrap().is_in(CODE) && !Place::of("one::Seen::first").unwrap().is_in(CODE));
