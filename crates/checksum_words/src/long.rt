@@ -29,6 +29,7 @@ pub(crate) fn after(first: Two, bytes: &[u8]) -> u16
     };
     let (words, _) = bytes.as_chunks::<8>();
     for word in words {
+        // Stays: `number::word`, as in `words::after`.
         four = with_next(four, number::word(word, 0));
     }
     of_four(four)

@@ -20,6 +20,7 @@ pub(crate) fn after(first: Two, bytes: &[u8]) -> u16
     let mut two = first;
     let (words, _) = bytes.as_chunks::<8>();
     for word in words {
+        // Stays: `number::word` and no `from_be_bytes`, whose contract does not speak of `number`, in which the loop's proof is.
         two = with_word(two, number::word(word, 0));
     }
     remainder::of_two(two.high, two.low)

@@ -29,6 +29,7 @@ use message::Seq;
 
 // The line's decision on the held bytes, at the front of the store, and the new ones. The rooms stay.
 // Ruled out: a decision on the bytes behind the held ones, and one that reaches into a room.
+// Stays: the clause `held ≤ held_max`, as for `line_deciding::decide`.
 pub fn decide_in(store: &mut [u8; STORE_LENGTH], held: usize, bytes: &[u8]) -> Decision
     requires { held ≤ held_max }
     ensures { DecidesIn result held bytes.now store.old store.new }

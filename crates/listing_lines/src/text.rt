@@ -1,6 +1,7 @@
 // The lines of a listing (document 01, "Capture lister"), each put behind what a vector of fixed room holds.
 // Stays: text by a match and no Display, since an impl stands beside its type, which knows no listing; a type of its own around each would be
 // longer, and the contracts here say how much room is needed too.
+// Stays: room is a clause, as in `texts`.
 ghost use Rattle.std.specs.Prelude.{◌≡◌, ◌++◌, ◌+◌, ◌≤◌, ◌<◌, length};
 ghost use Rattle.message.specs.Items.{message as frame};
 ghost use Rattle.message.specs.Promises.{item_of};

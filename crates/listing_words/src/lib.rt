@@ -28,6 +28,7 @@ pub fn put_word<const N: usize>(out: &mut ArrayVec<u8, N>, kind: u8)
 
 // A number in decimal. Public for `listing_lines`.
 // Ruled out: leading zeros, and 256 as 556.
+// Stays: the clause `n < decimal_limit`, here and in `listing_lines`, may not ask more: callers hand in a SEQ, a LEN or a count, plain numbers.
 #[tactic(auto, using(crate::proofs::Laws::same_decimal))]
 pub fn put_decimal<const N: usize>(out: &mut ArrayVec<u8, N>, n: usize)
     requires { (length out.old.items + 3 ≤ N) × (n < decimal_limit) }

@@ -20,6 +20,7 @@ pub(crate) fn filled() -> [u8; LENT_MAX]
 }
 
 // Makes a line of a receive, from its answer and the buffers as it left them.
+// Stays: the clause `.. ≤ lent_max`, here and in `running`: numbers of a script there, parts of an array here; a type for each would be longer.
 #[tactic(auto, unfolding(crate::specs::Lent::receive_line))]
 pub(crate) fn put_receive(line: &mut Line, answer: ReceiveAnswer, reply: &[u8], buffer: &[u8])
     requires reply { length reply.now ≤ lent_max }

@@ -1,6 +1,7 @@
 // The parts of an answer as text, each put behind what a vector of fixed room holds.
 // Stays: text by a match and no Display, since an impl stands beside its type, which knows no transcript; a type of its own around each would be
 // longer, and the contracts here say how much room is needed too.
+// Stays: room is a clause, as in `texts`.
 ghost use Rattle.std.specs.Prelude.{◌+◌, ◌≤◌, length};
 ghost use Rattle.texts.specs.Text.{Puts};
 ghost use Rattle.transcript.specs.Lines.{one_text, item_text, command_text, word_text, lent_text, ended_text};
