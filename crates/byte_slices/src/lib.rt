@@ -25,8 +25,8 @@ pub fn part(bytes: &[u8], at: usize, len: usize) -> &[u8]
     &rest[..len.min(rest.len())]
 }
 
-// The place of the first byte of the kind asked for among those from `from` up to `to`, or `to` where there is none. Public for the
-// crates above, which see that the part is one of the slice.
+// The place of the first byte of the kind asked for among those from `from` up to `to`, or `to` where there is none. The part is to be one
+// of the slice. No crate calls it.
 // Ruled out: a later place, and one behind the part.
 // Stays: a place and no Option of one, since `find` is public, and its clause `within` promises a place also where there is none.
 pub fn find(bytes: &[u8], from: usize, to: usize, byte: u8) -> usize
