@@ -98,22 +98,23 @@ pub fn is_same(one: &str, other: &str) -> bool {
     one == other || method_of(one).is_some_and(|m| method_of(other) == Some(m))
 }
 
-/// The paths of the functions that a file has, tests aside: what the prover has to prove of it.
+/// The paths of the functions that a file has, tests aside: what the prover has to prove of it. What a trait declares is proved of each
+/// `impl` of it.
 pub fn paths_in(file: &str, code: &str) -> Vec<String> {
     let module = module_of(file);
     let mut paths = Vec::new();
     let mut inside = String::new();
-    let mut in_tests = false;
+    let mut left_out = false;
     for line in code.lines() {
         if let Some(of) = impl_of(line) {
             inside = format!("::{}", type_in(of));
-        } else if line.starts_with("#[cfg(test)]") {
-            in_tests = true;
+        } else if ["#[cfg(test)]", "trait ", "pub trait "].iter().any(|begins| line.starts_with(begins)) {
+            left_out = true;
         } else if line.starts_with('}') {
             inside.clear();
-            in_tests = false;
+            left_out = false;
         }
-        if let Some(head) = Head::of(line).filter(|_| !in_tests) {
+        if let Some(head) = Head::of(line).filter(|_| !left_out) {
             paths.push(format!("{module}{inside}::{}", head.name));
         }
     }
@@ -131,9 +132,15 @@ fn module_of(file: &str) -> String {
 fn type_in(of: &str) -> String {
     let name = |text: &str| text.trim().split([' ', '<', '{', '(']).next().unwrap_or("").rsplit("::").next().unwrap_or("").to_string();
     match of.split_once(" for ") {
-        Some((of_trait, of_type)) => name(of_type) + &name(of_trait),
+        Some((of_trait, of_type)) => capital(&name(of_type)) + &name(of_trait),
         None => name(of),
     }
+}
+
+/// `U16` of `u16`, as the prover names an `impl` for it.
+fn capital(name: &str) -> String {
+    let mut rest = name.chars();
+    rest.next().map_or(String::new(), |first| first.to_uppercase().chain(rest).collect())
 }
 
 /// The names of the public functions, those for C included.
@@ -253,6 +260,16 @@ impl Shown for Frame {
     fn show(&self) {}
 }
 
+pub trait Named {
+    fn name(&self) -> u8;
+}
+
+impl Named for u16 {
+    fn name(&self) -> u8 {
+        0
+    }
+}
+
 impl<T: Into<Seq>> Reader<'_, T> {
     pub fn next(&mut self)
         ensures { Read }
@@ -300,7 +317,7 @@ fn last() {}
     #[test]
     fn every_function_by_its_path() {
         let paths = paths_in("crates/one/src/two.rt", CODE);
-        let wanted = ["first", "bare", "own", "Frame::first", "exported", "FrameShown::show", "Reader::next", "last"];
+        let wanted = ["first", "bare", "own", "Frame::first", "exported", "FrameShown::show", "U16Named::name", "Reader::next", "last"];
         assert_eq!(paths, wanted.map(|name| format!("one::two::{name}")));
         assert_eq!(paths_in("crates/one/src/main.rt", "fn main() {}\n"), ["one::main"]);
         assert_eq!(paths_in("crates/one/src/a/b.rt", "fn c() {}\n"), ["one::a::b::c"]);
