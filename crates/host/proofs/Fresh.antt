@@ -27,7 +27,7 @@ use Rattle.refusals.proofs.Table.{first_holds, first_fails, no_line}
 -- an endpoint with the numbers of a fresh one
 module _ (e : Endpoint) (r : ℕ) (none-live : e.live.count ≡ 0) (same : e.reserved ≡ r) (start : e.clock ≡ 0)
     (first : e.seq.0 ≡ first_seq) (next : e.next.0 ≡ suc r) (seen : seen_of e.seen ≡ none_seen) (empty : e.held ≡ 0) where
-  fresh_ledger : (store : List ℕ) → ledger_of e store ≡ fresh r
+  pub fresh_ledger : (store : List ℕ) → ledger_of e store ≡ fresh r
   unfolding requests_from
   fresh_ledger store = rw (none-live, same, start, first, next, seen, empty)
 
@@ -42,18 +42,25 @@ module _ (e : Endpoint) (r : ℕ) (none-live : e.live.count ≡ 0) (same : e.res
         (ap (ledger.malformed live_max) (fresh_ledger []) ∙ not_malformed live_max (fresh r) (fresh_fine live_max r small)),
   )
 
--- what open comes to, with a fresh endpoint
+-- what open comes to
+pub open_refused : (given : ℕ) → reserved_max < given
+    → open_for given ≡ record { answer = refused 3; buffers = []; next = fresh 0 }
+open_refused given over = ap (opened_by given) (first_holds 3 (ltb reserved_max given) [] (lt-ltb reserved_max given over))
+
+pub open_accepted : (given : ℕ) → given ≤ reserved_max → open_for given ≡ record { answer = opened; buffers = []; next = fresh given }
+open_accepted given within =
+    ap (opened_by given) (first_fails 3 (ltb reserved_max given) [] (le-ltb reserved_max given within) ∙ no_line)
+
+-- what open promises, with a fresh endpoint
 module _ (given : ℕ) (e : Endpoint) where
-  pub open_refused : reserved_max < given → ((store : List ℕ) → ledger_of e store ≡ fresh 0) × (malformed e ≡ false)
+  pub promised_refused : reserved_max < given → ((store : List ℕ) → ledger_of e store ≡ fresh 0) × (malformed e ≡ false)
       → promise.Opened (record { answer = Err ReservedOver; endpoint = e }) given
-  open_refused over is_fresh =
-      let comes : open_for given ≡ record { answer = refused 3; buffers = []; next = fresh 0 } =
-      ap (opened_by given) (first_holds 3 (ltb reserved_max given) [] (lt-ltb reserved_max given over)) in
+  promised_refused over is_fresh =
+      let comes = open_refused given over in
       record { answers = rw comes; next = rw comes is_fresh.0; sound = is_fresh.1 }
 
-  pub open_accepted : given ≤ reserved_max → ((store : List ℕ) → ledger_of e store ≡ fresh given) × (malformed e ≡ false)
+  pub promised_accepted : given ≤ reserved_max → ((store : List ℕ) → ledger_of e store ≡ fresh given) × (malformed e ≡ false)
       → promise.Opened (record { answer = Ok tt; endpoint = e }) given
-  open_accepted within is_fresh =
-      let comes : open_for given ≡ record { answer = opened; buffers = []; next = fresh given } =
-      ap (opened_by given) (first_fails 3 (ltb reserved_max given) [] (le-ltb reserved_max given within) ∙ no_line) in
+  promised_accepted within is_fresh =
+      let comes = open_accepted given within in
       record { answers = rw comes; next = rw comes is_fresh.0; sound = is_fresh.1 }

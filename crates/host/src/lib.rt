@@ -26,7 +26,7 @@ use opening::fresh;
 // Opens an endpoint that keeps the request IDs 1 to R for events. R over 255 is refusal 3, with the fresh endpoint for R = 0. The
 // store that is lent to the later calls may hold any bytes.
 // Ruled out: a first ID of R, and a refusal that hands back the endpoint for the R given.
-#[tactic(auto, using(crate::proofs::Fresh::open_refused, crate::proofs::Fresh::open_accepted))]
+#[tactic(auto, using(crate::proofs::Fresh::promised_refused, crate::proofs::Fresh::promised_accepted))]
 pub fn open(reserved: u64) -> Opened
     ensures promise { promise.Opened result reserved }
     ensures list { Begins result reserved }
