@@ -9,11 +9,13 @@ use lib.Dec.{ltb}
 use lib.ListN.{length, take, drop, get_or, set}
 use borrow.Author.Tests.{ltb-false, le-ltb}
 use Rattle.command.specs.Payload.{max_data}
+use Rattle.ledger.specs.Parts.{live_max}
 use Rattle.endpoint.specs.Endpoint.{room_at, request_of, requests_from}
 use Rattle.endpoint.specs.Malformed.{too_long}
 use Rattle.endpoint.specs.declared.Request.{Request}
 use Rattle.std.proofs.lemmas.Bool.{or_parts}
 use Rattle.endpoint.proofs.Rows.{blank_row}
+use Rattle.live_changes.proofs.Stores.{OthersStay}
 
 -- data that are not too long: those of the first row, and of the others
 module _ (q : Request) (qs : List Request) where
@@ -82,32 +84,42 @@ requests_append k (q ∷ qs) rs s =
     let sum : suc k + length qs ≡ k + suc (length qs) = omega arith in
     ap (request_of q (room_at s k q.len) ∷◌) (rw sum at (requests_append (suc k) qs rs s))
 
--- the data in n rooms from one on stand in another store in those from another one on
-abbrev pub RoomsMove : (n k j : ℕ) (s x : List ℕ) → Type 0
-RoomsMove n k j s x = (a b m : ℕ) → k ≤ a → a < k + n → a + j ≡ b + k → m ≤ max_data → room_at x a m ≡ room_at s b m
+-- the data of rows stand in another store in the rooms from one on as they did in those from another one on
+abbrev pub RoomsMove : (qs : List Request) (k j : ℕ) (s x : List ℕ) → Type 0
+RoomsMove qs k j s x = (p : ℕ) → p < length qs
+    → room_at x (k + p) (get_or qs p blank_row).len ≡ room_at s (j + p) (get_or qs p blank_row).len
 
-pub requests_move : (k j : ℕ) (qs : List Request) (s x : List ℕ) → RoomsMove (length qs) k j s x → too_long qs ≡ false
-    → requests_from k qs x ≡ requests_from j qs s
+pub requests_move : (k j : ℕ) (qs : List Request) (s x : List ℕ) → RoomsMove qs k j s x → requests_from k qs x ≡ requests_from j qs s
 unfolding requests_from
-requests_move k j [] s x o h = refl
-requests_move k j (q ∷ qs) s x o h =
-    let own : room_at x k q.len ≡ room_at s j q.len = o k j q.len (omega arith) (omega arith) (omega arith) (short_first q qs h) in
-    let rest : RoomsMove (length qs) (suc k) (suc j) s x =
-    λ a b m from to off few. o a b m (omega arith) (omega arith) (omega arith) few in
-    rw (own, requests_move (suc k) (suc j) qs s x rest (short_others q qs h))
+requests_move k j [] s x o = refl
+requests_move k j (q ∷ qs) s x o =
+    let own : room_at x k q.len ≡ room_at s j q.len = rw (add-zero k, add-zero j) at (o 0 (omega arith)) in
+    let rest : RoomsMove qs (suc k) (suc j) s x =
+    λ p less.
+    let to : suc k + p ≡ k + suc p = omega arith in
+    let from : suc j + p ≡ j + suc p = omega arith in
+    rw (to, from) (o (suc p) (omega arith)) in
+    rw (own, requests_move (suc k) (suc j) qs s x rest)
 
--- where they stand in the same rooms
+-- rows whose rooms stay
 pub requests_stay : (k : ℕ) (qs : List Request) (s x : List ℕ)
-    → ((j m : ℕ) → k ≤ j → j < k + length qs → m ≤ max_data → room_at x j m ≡ room_at s j m)
+    → ((j n : ℕ) → k ≤ j → j < k + length qs → n ≤ max_data → room_at x j n ≡ room_at s j n)
     → too_long qs ≡ false → requests_from k qs x ≡ requests_from k qs s
-requests_stay k qs s x o h = requests_move k k qs s x (λ a b m from to off few. let same : a ≡ b = omega arith in rw (← same) (o a m from to few)) h
+requests_stay k qs s x o h =
+    requests_move k k qs s x (λ p less. o (k + p) (get_or qs p blank_row).len (omega arith) (omega arith) (short_at qs p h))
 
--- another request in a row
-pub requests_set : (k i : ℕ) (qs : List Request) (q : Request) (s : List ℕ)
-    → requests_from k (set qs i q) s ≡ set (requests_from k qs s) i (request_of q (room_at s (k + i) q.len))
+-- another request in a row, whose room alone changes
+pub requests_set : (k i : ℕ) (qs : List Request) (q : Request) (s x : List ℕ) → OthersStay (k + i) s x → too_long qs ≡ false
+    → k + length qs ≤ live_max
+    → requests_from k (set qs i q) x ≡ set (requests_from k qs s) i (request_of q (room_at x (k + i) q.len))
 unfolding requests_from
-requests_set k i [] q s = refl
-requests_set k zero (p ∷ qs) q s = rw (add-zero k)
-requests_set k (suc i) (p ∷ qs) q s =
+requests_set k i [] q s x o h few = refl
+requests_set k zero (p ∷ qs) q s x o h few =
+    let rest = requests_stay (suc k) qs s x (λ j n a b c. o j n (omega arith) (omega arith) c) (short_others p qs h) in
+    rw (add-zero k, rest)
+requests_set k (suc i) (p ∷ qs) q s x o h few =
+    let own : room_at x k p.len ≡ room_at s k p.len = o k p.len (omega arith) (omega arith) (short_first p qs h) in
     let sum : suc k + i ≡ k + suc i = omega arith in
-    ap (request_of p (room_at s k p.len) ∷◌) (rw sum at (requests_set (suc k) i qs q s))
+    let stay : OthersStay (suc k + i) s x = rw sum o in
+    let rest = rw sum at (requests_set (suc k) i qs q s x stay (short_others p qs h) (omega arith)) in
+    rw (own, rest)

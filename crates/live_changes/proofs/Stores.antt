@@ -1,4 +1,4 @@
--- Data put into a room of a store, and rooms moved up by one: which bytes stand in which room afterwards, and that the others stay.
+-- Data put into a room of a store: they stand there, and the held bytes and the other rooms stay.
 use Prim.Native.Nat.{ℕ, ◌+◌, ◌-◌, ◌≤◌, ◌<◌}
 use mathlib.Core.Bool.{Bool, true, false}
 use mathlib.Core.List.{List, ◌++◌, append_assoc}
@@ -6,14 +6,15 @@ use mathlib.Core.Path.{◌≡◌, refl, sym, ap, ◌∙◌}
 use mathlib.Core.Logic.{◌≢◌}
 use native.Mathlib.Omega.{arith}
 use lib.Dec.{ltb}
-use lib.ListN.{length, take, drop, length-take, length-drop}
-use lib.Seq.{take_at, drop_at, take-take}
+use lib.ListN.{length, take, drop, length-take}
+use lib.Seq.{take_at, take-take}
 use borrow.Author.Tests.{ltb-true, ltb-false}
 use Rattle.message.specs.Writing.{placed}
-use Rattle.message.proofs.Buffer.{from_placed, beyond_placed}
+use Rattle.message.proofs.Buffer.{length_placed, from_placed, beyond_placed}
 use Rattle.line.specs.Receiving.{held_max}
+use Rattle.line.proofs.Moving.{length_part}
 use Rattle.std.specs.List.{copy_within}
-use Rattle.std.proofs.lemmas.List.{drop-take, drop-drop, length-take-le, take-append-le}
+use Rattle.std.proofs.lemmas.List.{drop-take}
 use Rattle.command.specs.Payload.{max_data}
 use Rattle.ledger.specs.Parts.{live_max}
 use Rattle.endpoint.specs.Endpoint.{room_place, store_length, room_at}
@@ -25,6 +26,9 @@ OthersStay row entry exit = (k n : ℕ) → k < live_max → k ≢ row → n ≤
 module _ (row : ℕ) (m l : List ℕ) (long : length l ≡ store_length) (is : row < live_max) (short : length m ≤ max_data) where
   within : room_place row + length m ≤ length l
   within = omega arith
+
+  pub length_filled : length (placed (room_place row) m l) ≡ store_length
+  length_filled = length_placed (room_place row) m l within ∙ long
 
   pub filled : room_at (placed (room_place row) m l) row (length m) ≡ m
   filled =
@@ -57,35 +61,11 @@ module _ (row : ℕ) (m l : List ℕ) (long : length l ≡ store_length) (is : r
   pub others_stay : OthersStay row l (placed (room_place row) m l)
   others_stay k n in_use differs few = other k n (ltb k row) refl differs few
 
--- bytes of a later place copied to an earlier one
-module _ (to from end : ℕ) (s : List ℕ) (before : to ≤ from) (order : from ≤ end) (within : end ≤ length s) where
-  part : List ℕ
-  part = take (end - from) (drop from s)
-
-  size : length part ≡ end - from
-  unfolding part
-  size = length-take-le (end - from) (drop from s) (simp length-drop (omega arith))
-
-  as_placed : copy_within s from end to ≡ take to s ++ (part ++ drop (to + (end - from)) s)
-  unfolding part
-  as_placed = append_assoc (take to s) (take (end - from) (drop from s)) (drop (to + (end - from)) s)
-
-  -- what stands before them stays
-  pub ahead_stays : (k m : ℕ) → k + m ≤ to → take m (drop k (copy_within s from end to)) ≡ take m (drop k s)
-  ahead_stays k m less =
-      let front : take (k + m) (copy_within s from end to) ≡ take (k + m) s =
-      rw as_placed (take-append-le (k + m) (take to s) (part ++ drop (to + (end - from)) s) (simp length-take (omega arith))
-      ∙ take-take (k + m) to s less) in
-      sym (drop-take k m (copy_within s from end to)) ∙ ap (drop k) front ∙ drop-take k m s
-
-  -- and they stand there
-  pub moved_there : (k m : ℕ) → from + k + m ≤ end → take m (drop (to + k) (copy_within s from end to)) ≡ take m (drop (from + k) s)
-  unfolding part
-  moved_there k m less =
-      let behind : drop to (copy_within s from end to) ≡ part ++ drop (to + (end - from)) s =
-      rw as_placed (drop_at (take to s) (part ++ drop (to + (end - from)) s) to (simp length-take (omega arith))) in
-      let own : take (k + m) (drop to (copy_within s from end to)) ≡ take (k + m) (drop from s) =
-      rw behind (take-append-le (k + m) part (drop (to + (end - from)) s) (omega (arith, size))
-      ∙ take-take (k + m) (end - from) (drop from s) (omega arith)) in
-      rw (← drop-drop k to (copy_within s from end to), ← drop-drop k from s)
-      (sym (drop-take k m (drop to (copy_within s from end to))) ∙ ap (drop k) own ∙ drop-take k m (drop from s))
+-- bytes copied to another place of the store are those bytes placed there
+pub copied_within : (to from len : ℕ) (l : List ℕ) → from + len ≤ length l
+    → copy_within l from (from + len) to ≡ placed to (take len (drop from l)) l
+unfolding placed
+copied_within to from len l within =
+    let many : from + len - from ≡ len = omega arith in
+    let size = length_part from len l within in
+    rw (many, size) (append_assoc (take to l) (take len (drop from l)) (drop (to + len) l))

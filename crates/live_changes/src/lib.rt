@@ -14,7 +14,7 @@ ghost use Rattle.live_changes.specs.declared.Change.TheVariants.{Turn};
 
 use endpoint::{Request, Requests, STORE_LENGTH, State};
 use ledger::Cause;
-use rooms::{fill, place_of};
+use rooms::{fill, move_up};
 
 // What a call does to the live requests, if anything: the one in a row turns into another state, or it leaves for a cause.
 #[derive(Clone, Copy)]
@@ -57,7 +57,7 @@ impl Live {
         Live { requests }
     }
 
-    // The request in a row leaves: those after it move up, each with its room.
+    // The request in a row leaves: those after it move up, each with its data.
     fn without(self, store: &mut [u8; STORE_LENGTH], row: usize) -> Live
         requires { row < self.requests.count }
         ensures { Becomes result.requests
@@ -66,8 +66,10 @@ impl Live {
     {
         let mut requests = self.requests;
         let count = requests.count;
+        for i in row..count - 1 {
+            move_up(store, i, requests.rows[i + 1].len);
+        }
         requests.rows.copy_within(row + 1..count, row);
-        store.copy_within(place_of(row + 1)..place_of(count), place_of(row));
         requests.count = count - 1;
         Live { requests }
     }

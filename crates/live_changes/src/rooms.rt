@@ -1,9 +1,9 @@
 // The rooms of a store: the data of the request in row i stand in room i, behind the held bytes.
-ghost use Rattle.std.specs.Prelude.{◌≡◌, ◌≤◌, ◌<◌, length};
+ghost use Rattle.std.specs.Prelude.{◌≡◌, suc, ◌≤◌, ◌<◌, length};
 ghost use Rattle.message.specs.Writing.{placed};
 ghost use Rattle.command.specs.Payload.{max_data};
 ghost use Rattle.ledger.specs.Parts.{live_max};
-ghost use Rattle.endpoint.specs.Endpoint.{room_place};
+ghost use Rattle.endpoint.specs.Endpoint.{room_place, room_at};
 
 use command::MAX_DATA;
 use endpoint::STORE_LENGTH;
@@ -26,4 +26,13 @@ pub(crate) fn fill(store: &mut [u8; STORE_LENGTH], row: usize, data: &[u8])
     ensures { store.new ≡ placed (room_place row) «data».now store.old }
 {
     put_at(store, place_of(row), data);
+}
+
+// Moves the first len bytes of the next room into a room.
+pub(crate) fn move_up(store: &mut [u8; STORE_LENGTH], row: usize, len: usize)
+    requires { (suc row < live_max) × (len ≤ max_data) }
+    ensures { store.new ≡ placed (room_place row) (room_at store.old (suc row) len) store.old }
+{
+    let from = place_of(row + 1);
+    store.copy_within(from..from + len, place_of(row));
 }
