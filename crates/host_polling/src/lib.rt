@@ -19,7 +19,6 @@ use host_sending::send;
 use ledger::{Cause, Ending};
 use link::frame::Frame;
 use link::sequence;
-use live_changes::Change;
 use live_deadline::time_left;
 use refusals::check_poll;
 
@@ -56,7 +55,7 @@ fn accept(accepted: Accepted, store: &mut [u8; STORE_LENGTH], output: &mut [u8])
 }
 
 // The request in a row ends.
-// Stays: the clause `row < accepted.e.live.count`, as for `live_changes::Live::carry_out`.
+// Stays: the clause `row < accepted.e.live.count`, as for `live_changes::Live::without`.
 fn end(accepted: Accepted, store: &mut [u8; STORE_LENGTH], row: usize, cause: Cause) -> Polled
     requires { row < accepted.e.live.count }
     ensures { (output : List ℕ) → Does (polled_as (ledger_of accepted.e store.old)
@@ -65,7 +64,7 @@ fn end(accepted: Accepted, store: &mut [u8; STORE_LENGTH], row: usize, cause: Ca
 {
     let before = accepted.live();
     let id = before.requests.rows[row].id;
-    let live = before.carry_out(store, Some(Change::End(row, cause)));
+    let live = before.without(store, row);
     Polled {
         answer: Ok(PollOutcome::Ended(Ending { id, cause })),
         endpoint: Endpoint {

@@ -57,8 +57,11 @@ impl Live {
         Live { requests }
     }
 
-    // The request in a row leaves: those after it move up, each with its data.
-    fn without(self, store: &mut [u8; STORE_LENGTH], row: usize) -> Live
+    // The request in a row leaves: those after it move up, each with its data. Public for `host_polling`, whose poll ends a request and asks for
+    // no other change: inlined there, it has the requests copied twice less, and that poll takes a third less time.
+    // Ruled out: a request that stays though it ended, and one behind it that loses its data.
+    #[inline(always)]
+    pub fn without(self, store: &mut [u8; STORE_LENGTH], row: usize) -> Live
         requires { row < self.requests.count }
         ensures { Becomes result.requests
             (take row (live_of self.requests store.old) ++ after row (live_of self.requests store.old)) store.old
