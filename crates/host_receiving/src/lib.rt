@@ -38,9 +38,10 @@ pub fn receive_in(
     }
 }
 
-// A receive that the table does not refuse.
+// A receive that the table does not refuse. A call of its own, as in `host_polling`: a refused receive then copies the endpoint once less.
 // Stays: the clause `total 0 ≤ length reply.old`, as for `frames::put_ack`.
 #[tactic(auto, using(refinement::proofs::Sound::held_of))]
+#[inline(never)]
 fn accept(
     accepted: Accepted,
     store: &mut [u8; STORE_LENGTH],
