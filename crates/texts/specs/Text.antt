@@ -22,6 +22,10 @@ decimal_in (suc k) n = if (ltb n 10) (hex_digit_ascii n ∷ []) (decimal_in k (n
 abbrev pub decimal : ℕ → List ℕ
 decimal n = decimal_in digits_max n
 
+-- a number below this has at most three digits
+abbrev pub short_limit : ℕ
+short_limit = 1000
+
 -- a number behind a word
 abbrev pub named : List ℕ → ℕ → List ℕ
 named word n = word ++ decimal n
@@ -46,6 +50,10 @@ spaced_room = 1 + digits_max
 
 abbrev pub pairs_room : List ℕ → ℕ
 pairs_room s = 2 * length s
+
+-- how many bytes are shown at once
+abbrev pub part_length : ℕ
+part_length = 64
 
 -- a text was put behind what a vector held, within a room
 pub record Puts (room : ℕ) (text entry exit : List ℕ) : Type 0 where
