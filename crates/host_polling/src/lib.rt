@@ -34,7 +34,7 @@ pub fn poll_in(e: Endpoint, store: &mut [u8; STORE_LENGTH], output: &mut [u8], c
 }
 
 // A poll that the table does not refuse. A call of its own: inlined, it has the endpoint copied twice more on its way out, and a poll that
-// is quiet takes a third more time.
+// is quiet takes a quarter more time.
 // Stays: the clause `total max_len ≤ length output.old`, as for `frames::put_command`.
 #[inline(never)]
 fn accept(accepted: Accepted, store: &mut [u8; STORE_LENGTH], output: &mut [u8]) -> Polled
