@@ -1,7 +1,7 @@
 -- Data put into a room of a store: they stand there, and the held bytes and the other rooms stay.
 use Prim.Native.Nat.{ℕ, ◌+◌, ◌-◌, ◌≤◌, ◌<◌}
 use mathlib.Core.Bool.{Bool, true, false}
-use mathlib.Core.List.{List, ◌++◌, append_assoc}
+use mathlib.Core.List.{List, ◌++◌}
 use mathlib.Core.Path.{◌≡◌, refl, sym, ap, ◌∙◌}
 use mathlib.Core.Logic.{◌≢◌}
 use native.Mathlib.Omega.{arith}
@@ -12,8 +12,6 @@ use borrow.Author.Tests.{ltb-true, ltb-false}
 use Rattle.message.specs.Writing.{placed}
 use Rattle.message.proofs.Buffer.{length_placed, from_placed, beyond_placed}
 use Rattle.line.specs.Receiving.{held_max}
-use Rattle.line.proofs.Moving.{length_part}
-use Rattle.std.specs.List.{copy_within}
 use Rattle.std.proofs.lemmas.List.{drop-take}
 use Rattle.command.specs.Payload.{max_data}
 use Rattle.ledger.specs.Parts.{live_max}
@@ -60,12 +58,3 @@ module _ (row : ℕ) (m l : List ℕ) (long : length l ≡ store_length) (is : r
 
   pub others_stay : OthersStay row l (placed (room_place row) m l)
   others_stay k n in_use differs few = other k n (ltb k row) refl differs few
-
--- bytes copied to another place of the store are those bytes placed there
-pub copied_within : (to from len : ℕ) (l : List ℕ) → from + len ≤ length l
-    → copy_within l from (from + len) to ≡ placed to (take len (drop from l)) l
-unfolding placed
-copied_within to from len l within =
-    let many : from + len - from ≡ len = omega arith in
-    let size = length_part from len l within in
-    rw (many, size) (append_assoc (take to l) (take len (drop from l)) (drop (to + len) l))

@@ -29,6 +29,7 @@ pub(crate) fn fill(store: &mut [u8; STORE_LENGTH], row: usize, data: &[u8])
 }
 
 // Moves the first len bytes of the next room into a room.
+#[tactic(auto, using(line::proofs::Moving::length_part), unfolding(message::specs::Writing::placed))]
 pub(crate) fn move_up(store: &mut [u8; STORE_LENGTH], row: usize, len: usize)
     requires { (suc row < live_max) × (len ≤ max_data) }
     ensures { store.new ≡ placed (room_place row) (room_at store.old (suc row) len) store.old }
