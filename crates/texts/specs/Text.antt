@@ -1,6 +1,6 @@
 -- Words, numbers and bytes as text (docs/SESSION-SCRIPT.md), in ASCII.
 use Prim.Native.Char.{code}
-use Rattle.std.specs.Prelude.{ℕ, zero, suc, ◌+◌, ◌*◌, ◌/◌, ◌%◌, ◌≤◌, cond as if, List, [], ◌∷◌, ◌++◌, ◌≡◌, ltb, length}
+use Rattle.std.specs.Prelude.{ℕ, zero, suc, ◌+◌, ◌*◌, ◌/◌, ◌%◌, ◌≤◌, cond as if, List, [], ◌∷◌, ◌++◌, ◌≡◌, ltb, length, take}
 use Prim.Native.String.{String, [] as none, ◌∷◌ as cons}
 use Rattle.io.specs.Digits.{hex_digit_ascii}
 
@@ -59,3 +59,8 @@ part_length = 64
 pub record Puts (room : ℕ) (text entry exit : List ℕ) : Type 0 where
   pub within : length exit ≤ length entry + room
   pub reads : exit ≡ entry ++ text
+
+-- a text was put behind the first `at` bytes of a buffer, up to `end`, within a room
+pub record PutsBehind (room at : ℕ) (text entry exit : List ℕ) (end : ℕ) : Type 0 where
+  pub within : end ≤ at + room
+  pub reads : take end exit ≡ take at entry ++ text

@@ -11,5 +11,7 @@ abbrev pub invariant-loop-part : goal.invariant-loop-part
 invariant-loop-part g l =
     let it = l.part-iterator in
     (chunks_size it ≡ part_length)
-    × (length l.out.items + 2 * length (chunks_rest it) ≤ length l.initial.out.items + 2 * length l.shown)
-    × (l.out.items ++ pairs (chunks_rest it) ≡ l.initial.out.items ++ pairs l.shown)
+    × (length (g.R.Room.text l.out) + 2 * length (chunks_rest it) ≤ length (g.R.Room.text l.initial.out) + 2 * length l.shown)
+    × (g.R.Room.text l.out ++ pairs (chunks_rest it) ≡ g.R.Room.text l.initial.out ++ pairs l.shown)
+    × (g.R.Room.most l.out ≡ g.R.Room.most l.initial.out)
+    × (g.R.Room.lent l.out ≡ g.R.Room.lent l.initial.out)
