@@ -1,17 +1,17 @@
 // How many bytes an answer says that the call has put into a lent buffer (docs/SESSION-SCRIPT.md): for `runner`, which shows those
-// bytes and looks behind them.
+// bytes and looks behind them. A refused answer has none, whatever it is refused by: a number, or a case of the table.
 #![tactic(auto)]
 
 ghost use Rattle.std.specs.Prelude.{◌≡◌};
 ghost use Rattle.lent_lengths.specs.Lengths.{handed_by, reply_length, data_length, frame_length};
 
-use host_answers::{PollAnswer, PollOutcome, ReceiveAnswer};
+use host_answers::{PollOutcome, Receipt};
 use ledger::Word;
 
 // How many bytes of the reply buffer a receive says it has put. Public for `runner`.
 // Ruled out: bytes said of a refused call, and the bytes taken in place of the reply.
 #[tactic(auto, unfolding(crate::specs::Lengths::reply_length))]
-pub fn reply_length(answer: ReceiveAnswer) -> usize
+pub fn reply_length<E: Drop>(answer: Result<Receipt, E>) -> usize
     ensures { result ≡ reply_length answer }
 {
     match answer {
@@ -23,7 +23,7 @@ pub fn reply_length(answer: ReceiveAnswer) -> usize
 // How many bytes of the data buffer. Public for `runner`.
 // Ruled out: bytes said of an unmatched command, and none said of an event.
 #[tactic(auto, unfolding(crate::specs::Lengths::data_length))]
-pub fn data_length(answer: ReceiveAnswer) -> usize
+pub fn data_length<E: Drop>(answer: Result<Receipt, E>) -> usize
     ensures { result ≡ data_length answer }
 {
     match answer {
@@ -45,13 +45,12 @@ fn handed_by(word: Option<Word>) -> usize
 // How many bytes of the output a poll says it has put. Public for `runner`.
 // Ruled out: a byte said where nothing was sent, and the time of a quiet poll in place of a length.
 #[tactic(auto, unfolding(crate::specs::Lengths::frame_length))]
-pub fn frame_length(answer: PollAnswer) -> usize
+pub fn frame_length<E: Drop>(answer: Result<PollOutcome, E>) -> usize
     ensures { result ≡ frame_length answer }
 {
     match answer {
         Ok(PollOutcome::Sent(len)) => len,
-        Ok(PollOutcome::Ended(_)) => 0,
+        Ok(PollOutcome::Ended(_)) | Err(_) => 0,
         Ok(PollOutcome::Quiet(_)) => 0,
-        Err(_) => 0,
     }
 }

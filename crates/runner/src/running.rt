@@ -1,5 +1,5 @@
 // The calls of a script, run on one endpoint. Each makes a line of its answer.
-ghost use Rattle.std.specs.Prelude.{◌≤◌};
+ghost use Rattle.std.specs.Prelude.{◌≤◌, length};
 ghost use Rattle.script.specs.Limits.{lent_max, Within};
 
 use crate::lent::{filled, put_poll, put_receive};
@@ -30,15 +30,16 @@ impl Session {
     // Runs the call on a line, and makes a line of its answer: an empty one where there is no call.
     pub(crate) fn run_line(&mut self, line: &[u8], answer: &mut Line) -> Result<(), Fault> {
         answer.clear();
-        match read_call(line, &mut filled())? {
-            Some(call) => self.run_call(call, answer),
+        let mut bytes = filled();
+        match read_call(line, &mut bytes)? {
+            Some(call) => self.run_call(call.with_bytes(&bytes), answer),
             None => Ok(()),
         }
     }
 
     // The first call is open, and there is no second one.
-    fn run_call(&mut self, call: Call<'_>, answer: &mut Line) -> Result<(), Fault>
-        requires { Within lent_max call }
+    fn run_call(&mut self, call: Call<&[u8]>, answer: &mut Line) -> Result<(), Fault>
+        requires { Within (λ named. length named.now) lent_max call }
     {
         match (call, self.endpoint) {
             (Call::Open { reserved }, None) => self.run_open(reserved, answer),

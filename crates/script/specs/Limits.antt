@@ -1,5 +1,5 @@
 -- The limits of what a call names (docs/SESSION-SCRIPT.md).
-use Rattle.std.specs.Prelude.{ℕ, ◌≤◌, length}
+use Rattle.std.specs.Prelude.{ℕ, ◌≤◌}
 use Rattle.script.specs.declared.calls.Call.{Call}
 use Rattle.script.specs.declared.calls.Call.TheVariants.{Open, Submit, Receive, Poll}
 
@@ -7,9 +7,10 @@ use Rattle.script.specs.declared.calls.Call.TheVariants.{Open, Submit, Receive, 
 abbrev pub lent_max : ℕ
 lent_max = 4096
 
--- the buffers of a call are within that limit, and the bytes that it names are among n
-abbrev pub Within : ℕ → Call → Type 0
-Within n (Open reserved) = 0 ≤ n
-Within n (Submit fields wanted clock bytes) = length bytes.now ≤ n
-Within n (Receive clock reply buffer bytes) = (reply ≤ lent_max) × (buffer ≤ lent_max) × (length bytes.now ≤ n)
-Within n (Poll clock output) = output ≤ lent_max
+-- the buffers of a call are within that limit, and the bytes that it names, as many as `count` tells of what it has of them, are
+-- among n
+abbrev pub Within : {B : Type 0} → (count : B → ℕ) → ℕ → Call B → Type 0
+Within count n (Open reserved) = 0 ≤ n
+Within count n (Submit fields wanted clock bytes) = count bytes ≤ n
+Within count n (Receive clock reply buffer bytes) = (reply ≤ lent_max) × (buffer ≤ lent_max) × (count bytes ≤ n)
+Within count n (Poll clock output) = output ≤ lent_max

@@ -64,15 +64,14 @@ impl<'a> Reader<'a> {
         }
     }
 
-    // Reads bytes, `-` for none, to the front of a lent buffer, and answers that front.
-    pub(crate) fn bytes<'b>(&mut self, bytes: &'b mut [u8]) -> Result<&'b [u8], Fault>
-        ensures { IfOk result (λ read. length read.now ≤ length bytes.old) }
+    // Reads bytes, `-` for none, to the front of a lent buffer, and answers how many they are.
+    pub(crate) fn bytes(&mut self, bytes: &mut [u8]) -> Result<usize, Fault>
+        ensures { IfOk result (λ count. count ≤ length bytes.old) }
     {
-        let count = match self.next()? {
-            b"-" => 0,
-            digits => decode(digits, bytes)?,
-        };
-        Ok(&bytes[..count])
+        match self.next()? {
+            b"-" => Ok(0),
+            digits => decode(digits, bytes),
+        }
     }
 
     // Sees to it that the last field was read.
