@@ -2,6 +2,7 @@
 // **Submit**: "The request joins as queued."; "An ended request leaves; its room is used by the next submit.").
 #![tactic(auto)]
 
+mod lent; // the changes in a slice that is as long as a store
 pub mod rooms; // the data of a request in the store
 
 ghost use Rattle.std.specs.Prelude.{◌≡◌, List, [], ◌∷◌, ◌++◌, ℕ, ◌≤◌, ◌<◌, length, take, set, Some};
@@ -14,6 +15,7 @@ ghost use Rattle.live_changes.specs.declared.Change.TheVariants.{Turn};
 
 use endpoint::{Request, Requests, STORE_LENGTH, State};
 use ledger::Cause;
+pub use lent::{carry_out, joined};
 use rooms::{fill, move_up};
 
 // What a call does to the live requests, if anything: the one in a row turns into another state, or it leaves for a cause.
