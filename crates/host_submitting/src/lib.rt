@@ -1,12 +1,13 @@
-// Submit (document 01, **Submit**): for `host`, which adds what the call says of every list of calls.
+// Submit (document 01, **Submit**), with the store as a slice of its length: for `host`, which lends it by its type, and adds what the call
+// says of every list of calls.
 #![tactic(auto)]
 
-ghost use Rattle.std.specs.Prelude.{◌≤◌, ◌<◌, length};
+ghost use Rattle.std.specs.Prelude.{◌≡◌, ◌≤◌, ◌<◌, length};
 ghost use Rattle.command.specs.Payload.{max_data};
 ghost use Rattle.command.specs.Promises.{fields_of};
 ghost use Rattle.ledger.specs.Parts.{live_max};
 ghost use Rattle.ledger.specs.Submitting as ledger;
-ghost use Rattle.endpoint.specs.Endpoint.{ledger_of};
+ghost use Rattle.endpoint.specs.Endpoint.{store_length, ledger_of};
 ghost use Rattle.host_answers.specs.Promises as promise;
 ghost use Rattle.host_answers.specs.Promises.{submit_result};
 ghost use Rattle.host_answers.specs.Code.{Does};
@@ -21,17 +22,24 @@ use refusals::check_submit;
 #[tactic(auto, using(host_answers::proofs::Calls::sound_of, crate::proofs::Joining::room_of))]
 pub fn submit_in(
     e: Endpoint,
-    store: &mut [u8; STORE_LENGTH],
+    store: &mut [u8],
     fields: Fields,
     data: &[u8],
     wanted: bool,
     clock: u64,
 ) -> Submitted
+    requires { length store.old ≡ store_length }
     ensures { promise.Submitted result e fields «data».now wanted clock store.old store.new }
 {
     match check_submit(e, data.len(), clock) {
         Err(refusal) => Submitted::refused(e, refusal),
-        Ok(()) => accept(Accepted { e, clock }, store, fields, data, wanted),
+        Ok(()) => accept(
+            Accepted { e, clock },
+            store.as_mut_array().unwrap(),
+            fields,
+            data,
+            wanted,
+        ),
     }
 }
 
@@ -49,7 +57,7 @@ fn accept(
         accepted.clock) (submit_result result store.new) }
 {
     let e = accepted.e;
-    let reserved = accepted.reserved();
+    let reserved = u64::from(accepted.reserved());
     let id = first_free(e.live.in_use(), reserved, e.next);
     let it = Request {
         id,

@@ -1,9 +1,9 @@
-// The ID that a submit issues (document 01, **Submit**: "The ID is the first one not live, from the next request ID on"). R is a number of
-// eight bits here: "R from 0 to 255".
+// The ID that a submit issues (document 01, **Submit**: "The ID is the first one not live, from the next request ID on"). Asks for an R that
+// is 255 at most ("R from 0 to 255"), by a clause where the callers have seen to it, and in `first_id` by its type.
 #![tactic(auto)]
 
-ghost use Rattle.std.specs.Prelude.{◌≡◌, length};
-ghost use Rattle.ledger.specs.Parts.{fresh};
+ghost use Rattle.std.specs.Prelude.{◌≡◌, ◌≤◌, length};
+ghost use Rattle.ledger.specs.Parts.{reserved_max, fresh};
 ghost use Rattle.ledger.specs.Submitting.{id_after, first_free};
 ghost use Rattle.endpoint.specs.Malformed.{bare_of};
 
@@ -14,7 +14,8 @@ use malformed_rule::is_among;
 // The first ID that none of these rows has, from one on: no more are passed over than there are rows.
 // Ruled out: an ID that is live, and 0 after 65535.
 #[tactic(auto, using(crate::proofs::FirstFree::free))]
-pub fn first_free(rows: &[Request], reserved: u8, from: RequestId) -> RequestId
+pub fn first_free(rows: &[Request], reserved: u64, from: RequestId) -> RequestId
+    requires { reserved ≤ reserved_max }
     ensures { result.0 ≡ first_free (length rows.now) reserved (bare_of rows.now) from.0 }
 {
     let mut id = from;
@@ -30,11 +31,12 @@ pub fn first_free(rows: &[Request], reserved: u8, from: RequestId) -> RequestId
 // The ID after one: "after 65535 comes R + 1".
 // Ruled out: 0 after 65535, and a counter that stays at 65535.
 #[tactic(auto, unfolding(ledger::specs::Submitting::id_after))]
-pub fn id_after(reserved: u8, id: RequestId) -> RequestId
+pub fn id_after(reserved: u64, id: RequestId) -> RequestId
+    requires { reserved ≤ reserved_max }
     ensures { result.0 ≡ id_after reserved id.0 }
 {
     if id.0 == LAST_ID {
-        return first_id(reserved);
+        return first_id(reserved as u8);
     }
     RequestId(id.0 + 1)
 }
