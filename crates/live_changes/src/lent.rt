@@ -1,4 +1,6 @@
 // The changes for whoever holds live requests whose rows fit, and lends any slice that is as long as a store.
+// Stays: the clauses `length store.old ≡ store_length` and `Fits live` may not ask more: callers hold requests and a slice, and an array and
+// `Live` would ask them for those.
 ghost use Rattle.std.specs.Prelude.{◌≡◌, [], ◌∷◌, ◌++◌, ◌≤◌, ◌<◌, length};
 ghost use Rattle.command.specs.Payload.{max_data};
 ghost use Rattle.ledger.specs.Parts.{live_max};

@@ -1,5 +1,5 @@
-// The ID that a submit issues (document 01, **Submit**: "The ID is the first one not live, from the next request ID on"). Asks for an R that
-// is 255 at most ("R from 0 to 255"), by a clause where the callers have seen to it, and in `first_id` by its type.
+// The ID that a submit issues (document 01, **Submit**: "The ID is the first one not live, from the next request ID on"). R is 255 at most
+// ("R from 0 to 255"): of an endpoint's R a clause says so, which the callers have seen to, and in `first_id` its type.
 #![tactic(auto)]
 
 ghost use Rattle.std.specs.Prelude.{◌≡◌, ◌≤◌, length};
@@ -13,6 +13,7 @@ use malformed_rule::is_among;
 
 // The first ID that none of these rows has, from one on: no more are passed over than there are rows.
 // Ruled out: an ID that is live, and 0 after 65535.
+// Stays: the clause `reserved ≤ reserved_max` may not ask more: callers hand in an endpoint's R, and a number of eight bits would ask them for one.
 #[tactic(auto, using(crate::proofs::FirstFree::free))]
 pub fn first_free(rows: &[Request], reserved: u64, from: RequestId) -> RequestId
     requires { reserved ≤ reserved_max }
@@ -30,6 +31,7 @@ pub fn first_free(rows: &[Request], reserved: u64, from: RequestId) -> RequestId
 
 // The ID after one: "after 65535 comes R + 1".
 // Ruled out: 0 after 65535, and a counter that stays at 65535.
+// Stays: the clause `reserved ≤ reserved_max`, likewise.
 #[tactic(auto, unfolding(ledger::specs::Submitting::id_after))]
 pub fn id_after(reserved: u64, id: RequestId) -> RequestId
     requires { reserved ≤ reserved_max }
