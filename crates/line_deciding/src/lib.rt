@@ -12,22 +12,24 @@ ghost use Rattle.line.specs.Promises.{Decides};
 
 use crate::found::Found;
 use line::store::put_at;
-use line::{Decision, HELD_MAX, Part};
+use line::{Decision, HELD_MAX};
 use line_joining::{all_held, join};
 use message::header::SYN;
 use message_reader::read;
 
 // The item that the array's first count bytes and the new ones decide, with all that a call gives. For the crates above, which
-// have refused a count over HELD_MAX: it is their malformed endpoint.
+// lend HELD_MAX bytes and have refused a larger count: it is their malformed endpoint.
 // Ruled out: a damaged message that is removed whole, and a payload that begins where SYN stood.
+// Stays: the clause `length array.old ≡ held_max` may ask no more: callers lend a slice of that length, and inside it becomes an array.
 // Stays: the clause `count ≤ held_max`, here and in `found`: the C function `fizrahum_probe_receive` lends array and count.
-pub fn decide(array: &mut [u8; HELD_MAX], count: usize, new: &[u8]) -> Decision
-    requires { count ≤ held_max }
+pub fn decide(array: &mut [u8], count: usize, new: &[u8]) -> Decision
+    requires { (length array.old ≡ held_max) × (count ≤ held_max) }
     ensures decides { Decides result (take count array.old) new.now array.new }
     ensures long { length array.new ≡ held_max }
 {
     let reading = read(&array[..count]);
     let Some(first) = reading.first else {
+        let array = array.as_mut_array().unwrap();
         return without_dropped(array, reading.dropped, count, new);
     };
     let found = Found {
@@ -47,11 +49,7 @@ fn without_dropped(array: &mut [u8; HELD_MAX], dropped: usize, count: usize, new
     if kept == 0 || breaks_syn(kept, new) {
         return in_new(array, new);
     }
-    let held = Part {
-        from: dropped,
-        count: kept,
-    };
-    join(array, held, new)
+    join(array, dropped, kept, new)
 }
 
 // Whether a lone first byte of SYN is held and the next byte is not the second.

@@ -24,19 +24,23 @@ const SEQ_BEHIND_SYN: usize = 3;
 // The bytes of a header whose SYN is gone: where the payload begins.
 const HEADER_BEHIND_SYN: usize = 6;
 
-// The item that a part of the array and the new bytes decide. SYN stands in front of the part, or its first byte.
+// The item that kept bytes of the array, from a place on, and the new ones decide. SYN stands in front of them, or its first byte.
 // For the crate above, which has dropped what stands before SYN and tested that the next byte does not break it.
 // Ruled out: a message that is whole and waits for one byte more, and a damaged one behind which the search goes on.
+// Stays: the clauses of the array's length and the part may ask no more: callers lend a slice of that length, and two numbers. Inside, an
+// array and a `Part` hold them.
 // Stays: array, held and new side by side: of a struct with the lent array each contract would say `self.exit.array.now` for `array.new`.
-pub fn join(array: &mut [u8; HELD_MAX], held: Part, new: &[u8]) -> Decision
-    requires { (0 < held.count) × (scan (bytes_of held array.old) ≡ undecided 0)
-        × (breaks held.count new.now ≡ false) }
-    ensures { Decides result (bytes_of held array.old) new.now array.new }
+pub fn join(array: &mut [u8], from: usize, kept: usize, new: &[u8]) -> Decision
+    requires { (length array.old ≡ held_max) × (from + kept ≤ held_max) × (0 < kept)
+        × (scan (take kept (drop from array.old)) ≡ undecided 0) × (breaks kept new.now ≡ false) }
+    ensures { Decides result (take kept (drop from array.old)) new.now array.new }
 {
-    if held.count < HEADER_LENGTH {
+    let array = array.as_mut_array().unwrap();
+    let held = Part { from, count: kept };
+    if kept < HEADER_LENGTH {
         return after_start(array, held, new);
     }
-    let len = len_in(&array[held.from..]);
+    let len = len_in(&array[from..]);
     after_header(array, held, len, new)
 }
 
