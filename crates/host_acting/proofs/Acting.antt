@@ -20,7 +20,6 @@ use Rattle.host_answers.specs.Promises.{receive_result}
 use Rattle.host_answers.specs.Code.{Does, DecidesIn}
 use Rattle.ledger.specs.declared.Ending.{Ending}
 use Rattle.std.specs.Prelude.{Option, Ok}
-use Rattle.host_answers.specs.declared.accepted.Accepted.{Accepted}
 use Rattle.host_answers.proofs.Held.{same_live, held_same}
 
 -- the bytes to be held stand at the front of a store, and what is behind it stays
@@ -30,31 +29,28 @@ pub record Settled (d : Decision) (held : ℕ) (entry exit : List ℕ) : Type 0 
   pub rooms : drop held_max exit ≡ drop held_max entry
 
 -- what is handed back
-abbrev pub handed_back : Accepted → Decision → Verdict → Option Ending → Requests → (held replied : ℕ) → Received
-handed_back accepted d v ending live held replied = record {
+abbrev pub handed_back : Endpoint → (clock : ℕ) → Decision → Verdict → Option Ending → Requests → (held replied : ℕ) → Received
+handed_back e clock d v ending live held replied = record {
   answer = Ok (record { item = d.answer; word = v.word; taken = d.taken; replied = replied; ending = ending });
   endpoint = record {
     live = live;
-    reserved = accepted.e.reserved;
-    clock = accepted.clock;
-    seq = accepted.e.seq;
-    next = accepted.e.next;
+    reserved = e.reserved;
+    clock = clock;
+    seq = e.seq;
+    next = e.next;
     seen = v.seen;
     held = held;
   };
 }
 
-module _ (accepted : Accepted) (d : Decision) (v : Verdict) (ending : Option Ending) (own live : Requests) (held replied : ℕ)
+module _ (e : Endpoint) (clock : ℕ) (d : Decision) (v : Verdict) (ending : Option Ending) (own live : Requests) (held replied : ℕ)
     (entry new middle settled exit words payload reply buffer : List ℕ) where
-  abbrev e : Endpoint
-  e = accepted.e
-
   pub acted : own ≡ e.live → DecidesIn d e.held new entry middle → length words ≡ replied → Settled d held middle settled
       → ((store : List ℕ) → ended_of ending ≡ ending_by v.change (live_of own store))
       → Becomes live (changed v.change (live_of own settled)) settled exit
       → Does (received_as (ledger_of e entry) (line.receive (take e.held entry) new)
-      (act_of v words payload (live_of e.live entry)) reply buffer accepted.clock)
-      (receive_result (handed_back accepted d v ending live held replied) exit (placed 0 words reply)
+      (act_of v words payload (live_of e.live entry)) reply buffer clock)
+      (receive_result (handed_back e clock d v ending live held replied) exit (placed 0 words reply)
       (placed 0 (bytes_for v.word payload) buffer))
   acted its decided size settles ended becomes =
       let few : held ≤ held_max = omega (arith, decided.decides.within, settles.counts) in

@@ -10,10 +10,10 @@ ghost use Rattle.line.specs.Receiving.{held_max};
 ghost use Rattle.line.specs.Promises.{part_of};
 ghost use Rattle.command.specs.Payload.{max_data};
 ghost use Rattle.ledger.specs.Receiving.{received_as};
-ghost use Rattle.endpoint.specs.Endpoint.{ledger_of, live_of};
+ghost use Rattle.endpoint.specs.Endpoint.{store_length, ledger_of, live_of};
 ghost use Rattle.live_changes.specs.Changing.{Names};
 ghost use Rattle.host_answers.specs.Promises.{receive_result};
-ghost use Rattle.host_answers.specs.Code.{Does, DecidesIn};
+ghost use Rattle.host_answers.specs.Code.{Sound, Does, DecidesIn};
 ghost use Rattle.decisions_verdict.specs.Verdicts.{bytes_for, act_of, Judges};
 
 use decisions::judge;
@@ -29,12 +29,13 @@ use message::Seq;
 
 // The line's decision on the held bytes, at the front of the store, and the new ones. The rooms stay.
 // Ruled out: a decision on the bytes behind the held ones, and one that reaches into a room.
+// Stays: the clause `length store.old ≡ store_length` may ask no more: callers lend a slice of that length, which is no array.
 // Stays: the clause `held ≤ held_max`, as for `line_deciding::decide`.
-pub fn decide_in(store: &mut [u8; STORE_LENGTH], held: usize, bytes: &[u8]) -> Decision
-    requires { held ≤ held_max }
+pub fn decide_in(store: &mut [u8], held: usize, bytes: &[u8]) -> Decision
+    requires { (length store.old ≡ store_length) × (held ≤ held_max) }
     ensures { DecidesIn result held bytes.now store.old store.new }
 {
-    decide(store.first_chunk_mut().unwrap(), held, bytes)
+    decide(store.first_chunk_mut::<HELD_MAX>().unwrap(), held, bytes)
 }
 
 // What a message does, with the data of an event or a response put into the data buffer.
@@ -66,23 +67,28 @@ pub fn deliver<'a>(
 // Carries out what an item does, when the store is as the line's decision left it: the bytes to be held go to the front, and the
 // live requests change.
 // Ruled out: *more* answered for an item, and held bytes that are lost.
+// Stays: the clauses of `Sound` and of the store's length may ask no more: callers hand in an endpoint and a reading of the clock and lend
+// a slice of that length. Inside, an `Accepted` and an array hold them.
 // Stays: the clause of `Names`, as for `live_changes::Live::carry_out`.
 pub fn act(
-    accepted: Accepted,
-    store: &mut [u8; STORE_LENGTH],
+    e: Endpoint,
+    store: &mut [u8],
     decision: Decision,
     verdict: Verdict,
     replied: usize,
+    clock: u64,
 ) -> Received
-    requires { (decision.start + decision.count ≤ held_max) × Names verdict.change accepted.e.live.count }
-    ensures { (before new words payload reply buffer : List ℕ)
-        → DecidesIn decision accepted.e.held new before store.old → length words ≡ replied
-        → Does (received_as (ledger_of accepted.e before) (line.receive (take accepted.e.held before) new)
-        (act_of verdict words payload (live_of accepted.e.live before)) reply buffer accepted.clock)
+    requires { Sound e clock × (length store.old ≡ store_length) × (decision.start + decision.count ≤ held_max)
+        × Names verdict.change e.live.count }
+    ensures { (before new words payload reply buffer : List ℕ) → DecidesIn decision e.held new before store.old
+        → length words ≡ replied
+        → Does (received_as (ledger_of e before) (line.receive (take e.held before) new)
+        (act_of verdict words payload (live_of e.live before)) reply buffer clock)
         (receive_result result store.new (placed 0 words reply) (placed 0 (bytes_for verdict.word payload) buffer)) }
 {
+    let store = store.as_mut_array().unwrap();
     let held = settle_in(store, decision);
-    let before = accepted.live();
+    let before = Accepted { e, clock }.live();
     let ending = ending_of(before.requests, verdict.change);
     let live = before.carry_out(store, verdict.change);
     let receipt = Receipt {
@@ -96,10 +102,10 @@ pub fn act(
         answer: Ok(receipt),
         endpoint: Endpoint {
             live: live.requests,
-            clock: accepted.clock,
+            clock,
             seen: verdict.seen,
             held,
-            ..accepted.e
+            ..e
         },
     }
 }

@@ -1,11 +1,11 @@
 // Poll (document 01, **Poll**): for `host`, which adds what the call says of every list of calls.
 #![tactic(auto)]
 
-ghost use Rattle.std.specs.Prelude.{Some, List, ℕ, ◌≤◌, ◌<◌, length};
+ghost use Rattle.std.specs.Prelude.{◌≡◌, Some, List, ℕ, ◌≤◌, ◌<◌, length};
 ghost use Rattle.message.specs.Bytes.{total, max_len};
 ghost use Rattle.ledger.specs.Polling as ledger;
 ghost use Rattle.ledger.specs.Polling.{step4, polled_as};
-ghost use Rattle.endpoint.specs.Endpoint.{ledger_of};
+ghost use Rattle.endpoint.specs.Endpoint.{store_length, ledger_of};
 ghost use Rattle.host_answers.specs.Promises as promise;
 ghost use Rattle.host_answers.specs.Promises.{poll_result};
 ghost use Rattle.host_answers.specs.Code.{Does};
@@ -23,13 +23,18 @@ use live_deadline::time_left;
 use refusals::check_poll;
 
 // What `host::poll` does and promises.
+// Stays: the clause `length store.old ≡ store_length`, as for `host_sending::send`.
 #[tactic(auto, using(host_answers::proofs::Calls::sound_of, host_answers::proofs::Calls::meets, host_sending::proofs::Stepping::long_enough))]
-pub fn poll_in(e: Endpoint, store: &mut [u8; STORE_LENGTH], output: &mut [u8], clock: u64) -> Polled
+pub fn poll_in(e: Endpoint, store: &mut [u8], output: &mut [u8], clock: u64) -> Polled
+    requires { length store.old ≡ store_length }
     ensures { promise.Polled result e output.old clock store.old store.new output.new }
 {
     match check_poll(e, output.len(), clock) {
         Err(refusal) => Polled::refused(e, refusal),
-        Ok(()) => accept(Accepted { e, clock }, store, output),
+        Ok(()) => {
+            let store = store.as_mut_array().unwrap();
+            accept(Accepted { e, clock }, store, output)
+        }
     }
 }
 
@@ -42,13 +47,15 @@ fn accept(accepted: Accepted, store: &mut [u8; STORE_LENGTH], output: &mut [u8])
     ensures { Does (ledger.poll (ledger_of accepted.e store.old) output.old accepted.clock)
         (poll_result result store.new output.new) }
 {
-    let seq = accepted.e.seq;
-    match next_step(accepted.e.live, accepted.clock) {
+    let e = accepted.e;
+    let clock = accepted.clock;
+    let seq = e.seq;
+    match next_step(e.live, clock) {
         Some(Step::End(row, cause)) => end(accepted, store, row, cause),
-        Some(Step::Again(row, frame)) => send(accepted, store, output, row, frame, seq),
+        Some(Step::Again(row, frame)) => send(e, store, output, row, frame, seq, clock),
         Some(Step::First(row)) => {
-            let frame = Frame::first(seq, accepted.clock);
-            send(accepted, store, output, row, frame, sequence::next(seq))
+            let frame = Frame::first(seq, clock);
+            send(e, store, output, row, frame, sequence::next(seq), clock)
         }
         None => quiet(accepted),
     }

@@ -1,11 +1,11 @@
 // Receive (document 01, **Receive**): for `host`, which adds what the call says of every list of calls.
 #![tactic(auto)]
 
-ghost use Rattle.std.specs.Prelude.{◌≤◌, length};
+ghost use Rattle.std.specs.Prelude.{◌≡◌, ◌≤◌, length};
 ghost use Rattle.message.specs.Bytes.{total};
 ghost use Rattle.command.specs.Payload.{max_data};
 ghost use Rattle.ledger.specs.Receiving as ledger;
-ghost use Rattle.endpoint.specs.Endpoint.{ledger_of};
+ghost use Rattle.endpoint.specs.Endpoint.{store_length, ledger_of};
 ghost use Rattle.host_answers.specs.Promises as promise;
 ghost use Rattle.host_answers.specs.Promises.{receive_result};
 ghost use Rattle.host_answers.specs.Code.{Does};
@@ -20,21 +20,26 @@ use message::Item;
 use refusals::check_receive;
 
 // What `host::receive` does and promises.
+// Stays: the clause `length store.old ≡ store_length`, as for `host_acting::act`.
 #[tactic(auto, using(host_answers::proofs::Calls::sound_of, host_answers::proofs::Calls::meets, crate::proofs::Rooms::roomy))]
 pub fn receive_in(
     e: Endpoint,
-    store: &mut [u8; STORE_LENGTH],
+    store: &mut [u8],
     bytes: &[u8],
     reply: &mut [u8],
     buffer: &mut [u8],
     clock: u64,
 ) -> Received
+    requires { length store.old ≡ store_length }
     ensures { promise.Received result e bytes.now reply.old buffer.old clock store.old
         store.new reply.new buffer.new }
 {
     match check_receive(e, reply.len(), buffer.len(), clock) {
         Err(refusal) => Received::refused(e, refusal),
-        Ok(()) => accept(Accepted { e, clock }, store, bytes, reply, buffer),
+        Ok(()) => {
+            let store = store.as_mut_array().unwrap();
+            accept(Accepted { e, clock }, store, bytes, reply, buffer)
+        }
     }
 }
 
@@ -56,12 +61,12 @@ fn accept(
     let e = accepted.e;
     let decision = decide_in(store, e.held, bytes);
     let Some(item) = decision.answer else {
-        return act(accepted, store, decision, only(None, e.seen), 0);
+        return act(e, store, decision, only(None, e.seen), 0, accepted.clock);
     };
     let replied = put_reply(reply, item);
     let Item::Message { kind, seq, len: _ } = item else {
         let plain = only(None, e.seen);
-        return act(accepted, store, decision, plain, replied);
+        return act(e, store, decision, plain, replied, accepted.clock);
     };
     let verdict = deliver(
         e,
@@ -73,5 +78,5 @@ fn accept(
         buffer,
         accepted.clock,
     );
-    act(accepted, store, decision, verdict, replied)
+    act(e, store, decision, verdict, replied, accepted.clock)
 }

@@ -5,11 +5,13 @@ use Rattle.host_acting.proofs.act.Goals as goal
 pub returns : goal.returns
 returns c first new words payload reply buffer decides size =
     let a = c.args in
+    let lent = c.unwrap-store.result.now in
+    let same = (rw c.unwrap-store.ensures at c.as_mut_array.ensures.cases).same in
     let settled = c.settle_in-held in
     let before = c.live-before in
     let after = c.carry_out-live in
-    let settles : Settled a.decision settled.result a.store.now settled.new.store =
+    let settles : Settled a.decision settled.result lent settled.new.store =
     record { counts = settled.ensures.0; stands = settled.ensures.1; rooms = settled.ensures.2 } in
-    acted a.accepted a.decision a.verdict c.ending_of-ending.result before.result.requests after.result.requests settled.result
-    a.replied first new a.store.now settled.new.store _ words payload reply buffer before.ensures decides size settles
+    acted a.e a.clock a.decision a.verdict c.ending_of-ending.result before.result.requests after.result.requests settled.result
+    a.replied first new lent settled.new.store _ words payload reply buffer before.ensures (rw same decides) size settles
     c.ending_of-ending.ensures after.ensures

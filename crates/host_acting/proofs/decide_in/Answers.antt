@@ -6,4 +6,4 @@ pub returns : goal.returns
 returns c =
     let front = (rw c.unwrap.ensures at c.first_chunk_mut.ensures.cases).same in
     let p = c.decide.ensures in
-    decided_in _ c.args.store.now p.long _ c.args.held c.args.bytes.now c.requires (rw front at p.decides)
+    decided_in _ c.args.store.now p.long _ c.args.held c.args.bytes.now c.requires.1 (rw front at p.decides)
