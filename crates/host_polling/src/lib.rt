@@ -8,7 +8,7 @@ ghost use Rattle.ledger.specs.Polling.{step4, polled_as};
 ghost use Rattle.endpoint.specs.Endpoint.{store_length, ledger_of};
 ghost use Rattle.host_answers.specs.Promises as promise;
 ghost use Rattle.host_answers.specs.Promises.{poll_result};
-ghost use Rattle.host_answers.specs.Code.{Does};
+ghost use Rattle.host_answers.specs.Code.{Sound, Does};
 ghost use Rattle.decisions_poll.specs.Steps.{step_of};
 ghost use Rattle.decisions_poll.specs.declared.Step.TheVariants.{End};
 
@@ -33,31 +33,30 @@ pub fn poll_in(e: Endpoint, store: &mut [u8], output: &mut [u8], clock: u64) -> 
         Err(refusal) => Polled::refused(e, refusal),
         Ok(()) => {
             let store = store.as_mut_array().unwrap();
-            accept(Accepted { e, clock }, store, output)
+            accept(e, store, output, clock)
         }
     }
 }
 
 // A poll that the table does not refuse. A call of its own: inlined, it has the endpoint copied twice more on its way out, and a poll that
 // is quiet takes a quarter more time.
+// Stays: the clause of `Sound`, as for `host_sending::send`: of an `Accepted` the endpoint would be copied once more for that call.
 // Stays: the clause `total max_len ≤ length output.old`, as for `frames::put_command`.
 #[inline(never)]
-fn accept(accepted: Accepted, store: &mut [u8; STORE_LENGTH], output: &mut [u8]) -> Polled
-    requires { total max_len ≤ length output.old }
-    ensures { Does (ledger.poll (ledger_of accepted.e store.old) output.old accepted.clock)
+fn accept(e: Endpoint, store: &mut [u8; STORE_LENGTH], output: &mut [u8], clock: u64) -> Polled
+    requires { Sound e clock × (total max_len ≤ length output.old) }
+    ensures { Does (ledger.poll (ledger_of e store.old) output.old clock)
         (poll_result result store.new output.new) }
 {
-    let e = accepted.e;
-    let clock = accepted.clock;
     let seq = e.seq;
     match next_step(e.live, clock) {
-        Some(Step::End(row, cause)) => end(accepted, store, row, cause),
+        Some(Step::End(row, cause)) => end(Accepted { e, clock }, store, row, cause),
         Some(Step::Again(row, frame)) => send(e, store, output, row, frame, seq, clock),
         Some(Step::First(row)) => {
             let frame = Frame::first(seq, clock);
             send(e, store, output, row, frame, sequence::next(seq), clock)
         }
-        None => quiet(accepted),
+        None => quiet(Accepted { e, clock }),
     }
 }
 
