@@ -1,5 +1,5 @@
-// The lines of a listing (document 01, "Capture lister") to a writer, many at a time: they wait in a vector of fixed room until there
-// is none for one more. For `listing`, which reads.
+// The lines of a listing (document 01, "Capture lister") to a writer, many at a time: they wait in a vector of fixed room or a lent
+// buffer until there is no room for one more. For `listing`, which reads.
 #![tactic(auto)]
 
 pub mod text; // an item as a line of text
@@ -12,28 +12,25 @@ ghost use Rattle.listing_lines.specs.Text.{line_room, len_of};
 ghost use Rattle.listing_lines.specs.Waiting.{has_room, writes, waits};
 
 use crate::text::{LINE_ROOM, put_line};
-use arrayvec::ArrayVec;
 use message::Item;
 use std::io;
 use std::io::Write;
 use streams::write_out;
+use texts::room::Room;
 
 // The line of an item joins those that wait; where there is no room for it, those are written first, and it waits alone. Where that
 // write fails, nothing waits. Public for `listing`.
 // Ruled out: a line that is put over those that wait, and one that is left out.
 #[tactic(auto, unfolding(crate::specs::Waiting::writes, crate::specs::Waiting::waits))]
-pub fn add_line<W: Write, const N: usize>(
-    output: &mut W,
-    out: &mut ArrayVec<u8, N>,
-    item: Item,
-) -> io::Result<()>
-    requires { (line_room ≤ N) × (len_of (item_of item) < decimal_limit) }
-    ensures within { length out.new.items ≤ N }
-    ensures joins { OnOk result (out.new.items ≡ waits N out.old.items (item_of item)) }
-    ensures written { OnOk result (Appends (W.contents output.old) (W.contents output.new) (writes N out.old.items)) }
-    ensures fails { OnErr result ((has_room N out.old.items ≡ false) × (out.new.items ≡ [])) }
+pub fn add_line<W: Write, R: Room>(output: &mut W, out: &mut R, item: Item) -> io::Result<()>
+    requires { (line_room ≤ R.most out.old) × (len_of (item_of item) < decimal_limit) }
+    ensures within { length (R.text out.new) ≤ R.most out.old }
+    ensures joins { OnOk result (R.text out.new ≡ waits (R.most out.old) (R.text out.old) (item_of item)) }
+    ensures written { OnOk result (Appends (W.contents output.old) (W.contents output.new) (writes (R.most out.old) (R.text out.old))) }
+    ensures fails { OnErr result ((has_room (R.most out.old) (R.text out.old) ≡ false) × (R.text out.new ≡ [])) }
+    ensures stays { (R.most out.new ≡ R.most out.old) × (R.lent out.new ≡ R.lent out.old) }
 {
-    if out.remaining_capacity() < LINE_ROOM {
+    if out.left() < LINE_ROOM {
         write_out(output, out)?;
     }
     put_line(out, item);

@@ -1,5 +1,5 @@
 // Where text is put: behind the text that stands there, while there is room.
-ghost use Rattle.std.specs.Prelude.{◌≡◌, List, ℕ, ◌++◌, ◌+◌, ◌≤◌, length, take};
+ghost use Rattle.std.specs.Prelude.{◌≡◌, List, [], ℕ, ◌++◌, ◌+◌, ◌≤◌, length, take};
 ghost use Rattle.texts.specs.Text.{PutsBehind};
 
 use arrayvec::ArrayVec;
@@ -19,6 +19,22 @@ pub trait Room {
         requires { length (text self.old) + length more.now ≤ most self.old }
         ensures text { text self.new ≡ text self.old ++ more.now }
         ensures stays { (most self.new ≡ most self.old) × (lent self.new ≡ lent self.old) };
+
+    // The text that it holds.
+    // Ruled out: what stands behind the text, and a text that lacks its last byte.
+    fn bytes(&self) -> &[u8]
+        ensures { result.now ≡ text self.now };
+
+    // How many more bytes of text it holds.
+    // Ruled out: the room counted with the text that fills it, and none where there is some.
+    fn left(&self) -> usize
+        ensures { result + length (text self.now) ≡ most self.now };
+
+    // It holds no text then, and has the room that it had.
+    // Ruled out: a text that it holds still, and another buffer.
+    fn clear(&mut self)
+        ensures stays { (most self.new ≡ most self.old) × (lent self.new ≡ lent self.old) }
+        ensures empty { text self.new ≡ [] };
 }
 
 impl<const N: usize> Room for ArrayVec<u8, N> {
@@ -30,6 +46,18 @@ impl<const N: usize> Room for ArrayVec<u8, N> {
 
     fn append(&mut self, more: &[u8]) {
         let _ = self.try_extend_from_slice(more);
+    }
+
+    fn bytes(&self) -> &[u8] {
+        self.as_slice()
+    }
+
+    fn left(&self) -> usize {
+        self.remaining_capacity()
+    }
+
+    fn clear(&mut self) {
+        self.clear();
     }
 }
 
@@ -52,6 +80,18 @@ impl Room for Lent<'_> {
         let end = self.at + more.len();
         self.out[self.at..end].copy_from_slice(more);
         self.at = end;
+    }
+
+    fn bytes(&self) -> &[u8] {
+        &self.out[..self.at]
+    }
+
+    fn left(&self) -> usize {
+        self.out.len() - self.at
+    }
+
+    fn clear(&mut self) {
+        self.at = 0;
     }
 }
 
