@@ -4,7 +4,7 @@
 
 pub mod text; // an item as a line of text
 
-ghost use Rattle.std.specs.Prelude.{◌≡◌, ◌≤◌, ◌<◌, false, [], length, OnOk, OnErr};
+ghost use Rattle.std.specs.Prelude.{◌≡◌, ◌≤◌, ◌<◌, false, [], length, take, IfOk, OnOk, OnErr};
 ghost use Rattle.std.specs.Io.KnownBytes.{Appends};
 ghost use Rattle.message.specs.Promises.{item_of};
 ghost use Rattle.listing_words.specs.Words.{decimal_limit};
@@ -16,7 +16,7 @@ use message::Item;
 use std::io;
 use std::io::Write;
 use streams::write_out;
-use texts::room::Room;
+use texts::room::{Lent, Room};
 
 // The line of an item joins those that wait; where there is no room for it, those are written first, and it waits alone. Where that
 // write fails, nothing waits. Public for `listing`.
@@ -35,4 +35,22 @@ pub fn add_line<W: Write, R: Room>(output: &mut W, out: &mut R, item: Item) -> i
     }
     put_line(out, item);
     Ok(())
+}
+
+// The same where the lines wait in the first `used` bytes of a lent buffer: how many wait then.
+// Ruled out: a line at the front of the buffer, over those that wait there, and a count that leaves out the line's end.
+pub fn add_line_behind<W: Write>(
+    output: &mut W,
+    out: &mut [u8],
+    used: usize,
+    item: Item,
+) -> io::Result<usize>
+    requires { (used ≤ length out.old) × (line_room ≤ length out.old) × (len_of (item_of item) < decimal_limit) }
+    ensures joins { IfOk result (λ end. (end ≤ length out.new) × (take end out.new ≡ waits (length out.old) (take used out.old) (item_of item))) }
+    ensures written { OnOk result (Appends (W.contents output.old) (W.contents output.new) (writes (length out.old) (take used out.old))) }
+    ensures fails { OnErr result (has_room (length out.old) (take used out.old) ≡ false) }
+{
+    let mut room = Lent { out, at: used };
+    add_line(output, &mut room, item)?;
+    Ok(room.at)
 }
