@@ -1,25 +1,26 @@
-// The answer to each call as a line of text, put behind what a vector of fixed room holds. Each asks for room, which the caller has
-// seen to.
+// The answer to each call as a line of text, put where there is room for it: in a vector of fixed room, or in a lent buffer behind a
+// place. Each asks for room, which the caller has seen to.
 // Stays: text by a match and no Display, since an impl stands beside its type, which knows no transcript; a type of its own around each would be
 // longer, and the contracts here say how much room is needed too.
-ghost use Rattle.std.specs.Prelude.{◌+◌, ◌≤◌, length};
+ghost use Rattle.std.specs.Prelude.{◌≡◌, ◌+◌, ◌≤◌, length};
 ghost use Rattle.texts.specs.Text.{Puts};
 ghost use Rattle.transcript.specs.Lines.{open_text, submit_text, judged_text, receipt_text, receive_text, poll_text, end_text};
 ghost use Rattle.transcript.specs.Lines.{open_room, submit_room, judged_room, receive_room, poll_room, end_room};
 
 use crate::parts::{put_ended, put_item, put_lent, put_word};
-use arrayvec::ArrayVec;
 use host_answers::{OpenAnswer, PollAnswer, PollOutcome, Receipt, ReceiveAnswer, SubmitAnswer};
 use ledger::Word;
 use message::Item;
+use texts::room::Room;
 use texts::{put, put_named};
 use transcript_parts::put_ending;
 
 // Open.
 #[tactic(auto, unfolding(crate::specs::Lines::open_text))]
-pub fn put_opened<const N: usize>(out: &mut ArrayVec<u8, N>, answer: OpenAnswer)
-    requires { length out.old.items + open_room ≤ N }
-    ensures { Puts open_room (open_text answer) out.old.items out.new.items }
+pub fn put_opened<R: Room>(out: &mut R, answer: OpenAnswer)
+    requires { length (R.text out.old) + open_room ≤ R.most out.old }
+    ensures puts { Puts open_room (open_text answer) (R.text out.old) (R.text out.new) }
+    ensures stays { (R.most out.new ≡ R.most out.old) × (R.lent out.new ≡ R.lent out.old) }
 {
     match answer {
         Ok(()) => put(out, b"opened"),
@@ -29,9 +30,10 @@ pub fn put_opened<const N: usize>(out: &mut ArrayVec<u8, N>, answer: OpenAnswer)
 
 // Submit.
 #[tactic(auto, unfolding(crate::specs::Lines::submit_text))]
-pub fn put_submitted<const N: usize>(out: &mut ArrayVec<u8, N>, answer: SubmitAnswer)
-    requires { length out.old.items + submit_room ≤ N }
-    ensures { Puts submit_room (submit_text answer) out.old.items out.new.items }
+pub fn put_submitted<R: Room>(out: &mut R, answer: SubmitAnswer)
+    requires { length (R.text out.old) + submit_room ≤ R.most out.old }
+    ensures puts { Puts submit_room (submit_text answer) (R.text out.old) (R.text out.new) }
+    ensures stays { (R.most out.new ≡ R.most out.old) × (R.lent out.new ≡ R.lent out.old) }
 {
     match answer {
         Ok(id) => put_named(out, b"submitted ", id.0 as u64),
@@ -41,14 +43,10 @@ pub fn put_submitted<const N: usize>(out: &mut ArrayVec<u8, N>, answer: SubmitAn
 
 // Receive, with the reply and the data that are to be shown.
 #[tactic(auto, unfolding(crate::specs::Lines::receive_text))]
-pub fn put_received<const N: usize>(
-    out: &mut ArrayVec<u8, N>,
-    answer: ReceiveAnswer,
-    reply: &[u8],
-    handed: &[u8],
-)
-    requires { length out.old.items + receive_room reply.now handed.now ≤ N }
-    ensures { Puts (receive_room reply.now handed.now) (receive_text answer reply.now handed.now) out.old.items out.new.items }
+pub fn put_received<R: Room>(out: &mut R, answer: ReceiveAnswer, reply: &[u8], handed: &[u8])
+    requires { length (R.text out.old) + receive_room reply.now handed.now ≤ R.most out.old }
+    ensures puts { Puts (receive_room reply.now handed.now) (receive_text answer reply.now handed.now) (R.text out.old) (R.text out.new) }
+    ensures stays { (R.most out.new ≡ R.most out.old) × (R.lent out.new ≡ R.lent out.old) }
 {
     match answer {
         Ok(receipt) => put_receipt(out, receipt, reply, handed),
@@ -57,14 +55,10 @@ pub fn put_received<const N: usize>(
 }
 
 #[tactic(auto, unfolding(crate::specs::Lines::receipt_text))]
-fn put_receipt<const N: usize>(
-    out: &mut ArrayVec<u8, N>,
-    receipt: Receipt,
-    reply: &[u8],
-    handed: &[u8],
-)
-    requires { length out.old.items + receive_room reply.now handed.now ≤ N }
-    ensures { Puts (receive_room reply.now handed.now) (receipt_text receipt reply.now handed.now) out.old.items out.new.items }
+fn put_receipt<R: Room>(out: &mut R, receipt: Receipt, reply: &[u8], handed: &[u8])
+    requires { length (R.text out.old) + receive_room reply.now handed.now ≤ R.most out.old }
+    ensures puts { Puts (receive_room reply.now handed.now) (receipt_text receipt reply.now handed.now) (R.text out.old) (R.text out.new) }
+    ensures stays { (R.most out.new ≡ R.most out.old) × (R.lent out.new ≡ R.lent out.old) }
 {
     let item = receipt.item;
     let word = receipt.word;
@@ -77,9 +71,10 @@ fn put_receipt<const N: usize>(
 }
 
 #[tactic(auto, unfolding(crate::specs::Lines::judged_text))]
-fn put_judged<const N: usize>(out: &mut ArrayVec<u8, N>, item: Option<Item>, word: Option<Word>)
-    requires { length out.old.items + judged_room ≤ N }
-    ensures { Puts judged_room (judged_text item word) out.old.items out.new.items }
+fn put_judged<R: Room>(out: &mut R, item: Option<Item>, word: Option<Word>)
+    requires { length (R.text out.old) + judged_room ≤ R.most out.old }
+    ensures puts { Puts judged_room (judged_text item word) (R.text out.old) (R.text out.new) }
+    ensures stays { (R.most out.new ≡ R.most out.old) × (R.lent out.new ≡ R.lent out.old) }
 {
     put(out, b"received ");
     put_item(out, item);
@@ -88,9 +83,10 @@ fn put_judged<const N: usize>(out: &mut ArrayVec<u8, N>, item: Option<Item>, wor
 
 // Poll, with the frame that is to be shown.
 #[tactic(auto, unfolding(crate::specs::Lines::poll_text))]
-pub fn put_polled<const N: usize>(out: &mut ArrayVec<u8, N>, answer: PollAnswer, frame: &[u8])
-    requires { length out.old.items + poll_room frame.now ≤ N }
-    ensures { Puts (poll_room frame.now) (poll_text answer frame.now) out.old.items out.new.items }
+pub fn put_polled<R: Room>(out: &mut R, answer: PollAnswer, frame: &[u8])
+    requires { length (R.text out.old) + poll_room frame.now ≤ R.most out.old }
+    ensures puts { Puts (poll_room frame.now) (poll_text answer frame.now) (R.text out.old) (R.text out.new) }
+    ensures stays { (R.most out.new ≡ R.most out.old) × (R.lent out.new ≡ R.lent out.old) }
 {
     match answer {
         Ok(PollOutcome::Sent(len)) => put_lent(out, b"sent ", len, frame),
@@ -103,9 +99,10 @@ pub fn put_polled<const N: usize>(out: &mut ArrayVec<u8, N>, answer: PollAnswer,
 
 // The end of a line: whether the call touched bytes that it should not have.
 #[tactic(auto, unfolding(crate::specs::Lines::end_text))]
-pub fn put_end<const N: usize>(out: &mut ArrayVec<u8, N>, touched: bool)
-    requires { length out.old.items + end_room ≤ N }
-    ensures { Puts end_room (end_text touched) out.old.items out.new.items }
+pub fn put_end<R: Room>(out: &mut R, touched: bool)
+    requires { length (R.text out.old) + end_room ≤ R.most out.old }
+    ensures puts { Puts end_room (end_text touched) (R.text out.old) (R.text out.new) }
+    ensures stays { (R.most out.new ≡ R.most out.old) × (R.lent out.new ≡ R.lent out.old) }
 {
     if touched {
         return put(out, b" touched\n");

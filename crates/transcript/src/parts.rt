@@ -1,23 +1,24 @@
-// The parts of an answer as text, each put behind what a vector of fixed room holds.
+// The parts of an answer as text, each put where there is room for it.
 // Stays: text by a match and no Display, since an impl stands beside its type, which knows no transcript; a type of its own around each would be
 // longer, and the contracts here say how much room is needed too.
 // Stays: room is a clause, as in `texts`.
-ghost use Rattle.std.specs.Prelude.{◌+◌, ◌≤◌, length};
+ghost use Rattle.std.specs.Prelude.{◌≡◌, ◌+◌, ◌≤◌, length};
 ghost use Rattle.texts.specs.Text.{Puts};
 ghost use Rattle.transcript.specs.Lines.{one_text, item_text, command_text, word_text, lent_text, ended_text};
 ghost use Rattle.transcript.specs.Lines.{item_room, command_room, word_room, lent_room, ended_room};
 
-use arrayvec::ArrayVec;
 use ledger::{Command, Ending, Word};
 use message::{Item, Seq};
+use texts::room::Room;
 use texts::{put, put_bytes, put_named, put_spaced};
 use transcript_parts::{put_ending, put_fields};
 
 // The item, or `more`.
 #[tactic(auto, unfolding(crate::specs::Lines::item_text))]
-pub(crate) fn put_item<const N: usize>(out: &mut ArrayVec<u8, N>, answer: Option<Item>)
-    requires { length out.old.items + item_room ≤ N }
-    ensures { Puts item_room (item_text answer) out.old.items out.new.items }
+pub(crate) fn put_item<R: Room>(out: &mut R, answer: Option<Item>)
+    requires { length (R.text out.old) + item_room ≤ R.most out.old }
+    ensures puts { Puts item_room (item_text answer) (R.text out.old) (R.text out.new) }
+    ensures stays { (R.most out.new ≡ R.most out.old) × (R.lent out.new ≡ R.lent out.old) }
 {
     match answer {
         None => put(out, b"more"),
@@ -26,9 +27,10 @@ pub(crate) fn put_item<const N: usize>(out: &mut ArrayVec<u8, N>, answer: Option
 }
 
 #[tactic(auto, unfolding(crate::specs::Lines::one_text))]
-fn put_one<const N: usize>(out: &mut ArrayVec<u8, N>, item: Item)
-    requires { length out.old.items + item_room ≤ N }
-    ensures { Puts item_room (one_text item) out.old.items out.new.items }
+fn put_one<R: Room>(out: &mut R, item: Item)
+    requires { length (R.text out.old) + item_room ≤ R.most out.old }
+    ensures puts { Puts item_room (one_text item) (R.text out.old) (R.text out.new) }
+    ensures stays { (R.most out.new ≡ R.most out.old) × (R.lent out.new ≡ R.lent out.old) }
 {
     match item {
         Item::DamagedHeader => put(out, b"damaged-header"),
@@ -39,9 +41,10 @@ fn put_one<const N: usize>(out: &mut ArrayVec<u8, N>, item: Item)
 }
 
 #[tactic(auto, unfolding(crate::specs::Lines::one_text))]
-fn put_message<const N: usize>(out: &mut ArrayVec<u8, N>, kind: u8, seq: Seq, len: usize)
-    requires { length out.old.items + item_room ≤ N }
-    ensures { Puts item_room (one_text (Item.Message kind seq len)) out.old.items out.new.items }
+fn put_message<R: Room>(out: &mut R, kind: u8, seq: Seq, len: usize)
+    requires { length (R.text out.old) + item_room ≤ R.most out.old }
+    ensures puts { Puts item_room (one_text (Item.Message kind seq len)) (R.text out.old) (R.text out.new) }
+    ensures stays { (R.most out.new ≡ R.most out.old) × (R.lent out.new ≡ R.lent out.old) }
 {
     put_named(out, b"message ", kind as u64);
     put_spaced(out, seq.0 as u64);
@@ -50,9 +53,10 @@ fn put_message<const N: usize>(out: &mut ArrayVec<u8, N>, kind: u8, seq: Seq, le
 
 // The word that a message earned, or that it earned none.
 #[tactic(auto, unfolding(crate::specs::Lines::word_text))]
-pub(crate) fn put_word<const N: usize>(out: &mut ArrayVec<u8, N>, word: Option<Word>)
-    requires { length out.old.items + word_room ≤ N }
-    ensures { Puts word_room (word_text word) out.old.items out.new.items }
+pub(crate) fn put_word<R: Room>(out: &mut R, word: Option<Word>)
+    requires { length (R.text out.old) + word_room ≤ R.most out.old }
+    ensures puts { Puts word_room (word_text word) (R.text out.old) (R.text out.new) }
+    ensures stays { (R.most out.new ≡ R.most out.old) × (R.lent out.new ≡ R.lent out.old) }
 {
     match word {
         None => put(out, b" none"),
@@ -67,9 +71,10 @@ pub(crate) fn put_word<const N: usize>(out: &mut ArrayVec<u8, N>, word: Option<W
 
 // A command behind its word: TC, TID, SID, IID, CID, RQID and the length of its data.
 #[tactic(auto, unfolding(crate::specs::Lines::command_text))]
-fn put_command<const N: usize>(out: &mut ArrayVec<u8, N>, word: &[u8], it: Command)
-    requires { length out.old.items + command_room word.now ≤ N }
-    ensures { Puts (command_room word.now) (command_text word.now it) out.old.items out.new.items }
+fn put_command<R: Room>(out: &mut R, word: &[u8], it: Command)
+    requires { length (R.text out.old) + command_room word.now ≤ R.most out.old }
+    ensures puts { Puts (command_room word.now) (command_text word.now it) (R.text out.old) (R.text out.new) }
+    ensures stays { (R.most out.new ≡ R.most out.old) × (R.lent out.new ≡ R.lent out.old) }
 {
     let fields = it.fields;
     let id = it.id;
@@ -81,14 +86,10 @@ fn put_command<const N: usize>(out: &mut ArrayVec<u8, N>, word: &[u8], it: Comma
 
 // A length and bytes behind a name.
 #[tactic(auto, unfolding(crate::specs::Lines::lent_text))]
-pub(crate) fn put_lent<const N: usize>(
-    out: &mut ArrayVec<u8, N>,
-    name: &[u8],
-    len: usize,
-    shown: &[u8],
-)
-    requires { length out.old.items + lent_room name.now shown.now ≤ N }
-    ensures { Puts (lent_room name.now shown.now) (lent_text name.now len shown.now) out.old.items out.new.items }
+pub(crate) fn put_lent<R: Room>(out: &mut R, name: &[u8], len: usize, shown: &[u8])
+    requires { length (R.text out.old) + lent_room name.now shown.now ≤ R.most out.old }
+    ensures puts { Puts (lent_room name.now shown.now) (lent_text name.now len shown.now) (R.text out.old) (R.text out.new) }
+    ensures stays { (R.most out.new ≡ R.most out.old) × (R.lent out.new ≡ R.lent out.old) }
 {
     put_named(out, name, len as u64);
     put(out, b" ");
@@ -97,9 +98,10 @@ pub(crate) fn put_lent<const N: usize>(
 
 // The ending that a receive reports, if any.
 #[tactic(auto, unfolding(crate::specs::Lines::ended_text))]
-pub(crate) fn put_ended<const N: usize>(out: &mut ArrayVec<u8, N>, ended: Option<Ending>)
-    requires { length out.old.items + ended_room ≤ N }
-    ensures { Puts ended_room (ended_text ended) out.old.items out.new.items }
+pub(crate) fn put_ended<R: Room>(out: &mut R, ended: Option<Ending>)
+    requires { length (R.text out.old) + ended_room ≤ R.most out.old }
+    ensures puts { Puts ended_room (ended_text ended) (R.text out.old) (R.text out.new) }
+    ensures stays { (R.most out.new ≡ R.most out.old) × (R.lent out.new ≡ R.lent out.old) }
 {
     match ended {
         None => put(out, b" no-ending"),

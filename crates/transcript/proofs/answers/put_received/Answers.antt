@@ -5,6 +5,6 @@ use Rattle.transcript.specs.Lines.{receive_text}
 use Rattle.texts.proofs.Putting.{wider}
 use Rattle.transcript.proofs.answers.put_received.Goals as goal
 
-pub returns-in-Err : goal.returns-in-Err
+pub returns-in-Err-clause-puts : goal.returns-in-Err-clause-puts
 unfolding receive_text
-returns-in-Err g c = rw (c.in-Err.is, sym c.number.ensures) (wider (omega arith) c.put_named.ensures)
+returns-in-Err-clause-puts g c = rw (c.in-Err.is, sym c.number.ensures) (wider (omega arith) c.put_named.ensures.puts)
