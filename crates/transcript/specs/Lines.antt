@@ -1,14 +1,15 @@
--- The answer to each call as text (docs/SESSION-SCRIPT.md), in the order of the answer's parts.
-use Rattle.std.specs.Prelude.{ℕ, ◌+◌, Bool, true, false, List, ◌++◌, Option, Some, None, Ok, Err, length}
+-- The answer to each call as text (docs/SESSION-SCRIPT.md), in the order of the answer's parts. Where a call may be refused, `number`
+-- gives the refusal's number.
+use Rattle.std.specs.Prelude.{ℕ, ◌+◌, Bool, true, false, List, ◌++◌, ⊤, Option, Some, None, Result, Ok, Err, length}
+use Rattle.command.specs.declared.RequestId.{RequestId}
 use Rattle.message.specs.declared.Item.{Item}
 use Rattle.message.specs.declared.Item.TheVariants.{DamagedHeader, Forbidden, DamagedPayload, Message}
 use Rattle.ledger.specs.declared.Command.{Command}
 use Rattle.ledger.specs.declared.Word.{Word}
 use Rattle.ledger.specs.declared.Word.TheVariants as words
 use Rattle.ledger.specs.declared.Ending.{Ending}
-use Rattle.ledger.specs.Promises.{number_of}
-use Rattle.host_answers.specs.Answers.{OpenAnswer, SubmitAnswer, ReceiveAnswer, PollAnswer}
 use Rattle.host_answers.specs.declared.Receipt.{Receipt}
+use Rattle.host_answers.specs.declared.PollOutcome.{PollOutcome}
 use Rattle.host_answers.specs.declared.PollOutcome.TheVariants as outcome
 use Rattle.texts.specs.Text.{ascii, named, shown_as, pairs_room}
 use Rattle.transcript_parts.specs.Parts.{fields_text, ending_text}
@@ -49,14 +50,14 @@ ended_text None = ascii " no-ending"
 ended_text (Some e) = ascii " " ++ ending_text e
 
 -- open
-unfoldable pub open_text : OpenAnswer → List ℕ
-open_text (Ok done) = ascii "opened"
-open_text (Err r) = named (ascii "open refused ") (number_of r)
+unfoldable pub open_text : {E : Type 0} → (number : E → ℕ) → Result ⊤ E → List ℕ
+open_text number (Ok done) = ascii "opened"
+open_text number (Err r) = named (ascii "open refused ") (number r)
 
 -- submit
-unfoldable pub submit_text : SubmitAnswer → List ℕ
-submit_text (Ok id) = named (ascii "submitted ") id.0
-submit_text (Err r) = named (ascii "submit refused ") (number_of r)
+unfoldable pub submit_text : {E : Type 0} → (number : E → ℕ) → Result RequestId E → List ℕ
+submit_text number (Ok id) = named (ascii "submitted ") id.0
+submit_text number (Err r) = named (ascii "submit refused ") (number r)
 
 -- receive: the item and the word
 unfoldable pub judged_text : Option Item → Option Word → List ℕ
@@ -71,17 +72,17 @@ receipt_text r reply bytes =
     ++ (lent_text (ascii " data ") (length bytes) bytes
     ++ ended_text r.ending)))
 
-unfoldable pub receive_text : ReceiveAnswer → List ℕ → List ℕ → List ℕ
-receive_text (Ok r) reply bytes = receipt_text r reply bytes
-receive_text (Err r) reply bytes = named (ascii "receive refused ") (number_of r)
+unfoldable pub receive_text : {E : Type 0} → (number : E → ℕ) → Result Receipt E → List ℕ → List ℕ → List ℕ
+receive_text number (Ok r) reply bytes = receipt_text r reply bytes
+receive_text number (Err r) reply bytes = named (ascii "receive refused ") (number r)
 
 -- poll
-unfoldable pub poll_text : PollAnswer → List ℕ → List ℕ
-poll_text (Ok (outcome.Sent len)) frame = lent_text (ascii "sent ") len frame
-poll_text (Ok (outcome.Ended e)) frame = ending_text e
-poll_text (Ok (outcome.Quiet (Some ms))) frame = named (ascii "quiet ") ms
-poll_text (Ok (outcome.Quiet None)) frame = ascii "no-deadline"
-poll_text (Err r) frame = named (ascii "poll refused ") (number_of r)
+unfoldable pub poll_text : {E : Type 0} → (number : E → ℕ) → Result PollOutcome E → List ℕ → List ℕ
+poll_text number (Ok (outcome.Sent len)) frame = lent_text (ascii "sent ") len frame
+poll_text number (Ok (outcome.Ended e)) frame = ending_text e
+poll_text number (Ok (outcome.Quiet (Some ms))) frame = named (ascii "quiet ") ms
+poll_text number (Ok (outcome.Quiet None)) frame = ascii "no-deadline"
+poll_text number (Err r) frame = named (ascii "poll refused ") (number r)
 
 -- the end of a line, and whether bytes were touched that should not have been
 unfoldable pub end_text : Bool → List ℕ
