@@ -15,6 +15,8 @@ pub trait Room {
     // which buffer it writes to, where that is lent
     ghost lent: { Self → ℕ };
 
+    // Puts more text behind it.
+    // Ruled out: a text over the one before, and another buffer.
     fn append(&mut self, more: &[u8])
         requires { length (text self.old) + length more.now ≤ most self.old }
         ensures text { text self.new ≡ text self.old ++ more.now }
