@@ -29,7 +29,7 @@ use message::Seq;
 
 // The line's decision on the held bytes, at the front of the store, and the new ones. The rooms stay.
 // Ruled out: a decision on the bytes behind the held ones, and one that reaches into a room.
-// Stays: the clause `length store.old ≡ store_length` may ask no more: callers lend a slice of that length, which is no array.
+// Stays: the clause `length store.old ≡ store_length` may not ask more: any slice of that length may be lent, and no array alone.
 // Stays: the clause `held ≤ held_max`, as for `line_deciding::decide`.
 pub fn decide_in(store: &mut [u8], held: usize, bytes: &[u8]) -> Decision
     requires { (length store.old ≡ store_length) × (held ≤ held_max) }
@@ -67,8 +67,8 @@ pub fn deliver<'a>(
 // Carries out what an item does, when the store is as the line's decision left it: the bytes to be held go to the front, and the
 // live requests change.
 // Ruled out: *more* answered for an item, and held bytes that are lost.
-// Stays: the clauses of `Sound` and of the store's length may ask no more: callers hand in an endpoint and a reading of the clock and lend
-// a slice of that length. Inside, an `Accepted` and an array hold them.
+// Stays: the clauses of `Sound` and of the store's length may not ask more: any endpoint and reading of which the first holds may be handed
+// in, and any slice of that length lent. Inside, an `Accepted` and an array hold them.
 // Stays: the clause of `Names`, as for `live_changes::Live::carry_out`.
 pub fn act(
     e: Endpoint,

@@ -19,7 +19,7 @@ use live_ids::{first_free, id_after};
 use refusals::check_submit;
 
 // What `host::submit` does and promises.
-// Stays: the clause `length store.old ≡ store_length` may not ask more: callers lend any slice of that length, and an array would ask them for one.
+// Stays: the clause `length store.old ≡ store_length` may not ask more: any slice of that length may be lent, and no array alone.
 #[tactic(auto, using(host_answers::proofs::Calls::sound_of, crate::proofs::Joining::room_of))]
 pub fn submit_in(
     e: Endpoint,

@@ -20,7 +20,7 @@ use message_reader::read;
 // The item that the array's first count bytes and the new ones decide, with all that a call gives. For the crates above, which
 // lend HELD_MAX bytes and have refused a larger count: it is their malformed endpoint.
 // Ruled out: a damaged message that is removed whole, and a payload that begins where SYN stood.
-// Stays: the clause `length array.old ≡ held_max` may ask no more: callers lend a slice of that length, and inside it becomes an array.
+// Stays: the clause `length array.old ≡ held_max` may not ask more: any slice of that length may be lent. Inside it becomes an array.
 // Stays: the clause `count ≤ held_max`, here and in `found`: the C function `fizrahum_probe_receive` lends array and count.
 pub fn decide(array: &mut [u8], count: usize, new: &[u8]) -> Decision
     requires { (length array.old ≡ held_max) × (count ≤ held_max) }

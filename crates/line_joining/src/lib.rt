@@ -27,8 +27,8 @@ const HEADER_BEHIND_SYN: usize = 6;
 // The item that kept bytes of the array, from a place on, and the new ones decide. SYN stands in front of them, or its first byte.
 // For the crate above, which has dropped what stands before SYN and tested that the next byte does not break it.
 // Ruled out: a message that is whole and waits for one byte more, and a damaged one behind which the search goes on.
-// Stays: the clauses of the array's length and the part may ask no more: callers lend a slice of that length, and two numbers. Inside, an
-// array and a `Part` hold them.
+// Stays: the clauses of the array's length and the part may not ask more: any slice of that length may be lent, and any two numbers within it
+// handed in. Inside, an array and a `Part` hold them.
 // Stays: array, held and new side by side: of a struct with the lent array each contract would say `self.exit.array.now` for `array.new`.
 pub fn join(array: &mut [u8], from: usize, kept: usize, new: &[u8]) -> Decision
     requires { (length array.old ≡ held_max) × (from + kept ≤ held_max) × (0 < kept)

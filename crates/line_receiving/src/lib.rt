@@ -21,9 +21,9 @@ pub fn receive(array: &mut [u8; HELD_MAX], count: usize, new: &[u8]) -> Received
     receive_in(array, count, new)
 }
 
-// The same where the array is HELD_MAX bytes of a larger one.
+// The same where the array is lent as a slice, such as HELD_MAX bytes of a larger one.
 // Ruled out: bytes behind the first count read as held ones, and bytes to be held that stay where they stood.
-// Stays: the clause `length array.old ≡ held_max` may ask no more: callers lend a slice of that length, which is no array.
+// Stays: the clause `length array.old ≡ held_max` may not ask more: any slice of that length may be lent, and no array alone.
 pub fn receive_in(array: &mut [u8], count: usize, new: &[u8]) -> Received
     requires { (length array.old ≡ held_max) × (count ≤ held_max) }
     ensures { Receives result (take count array.old) new.now array.new }

@@ -1,6 +1,6 @@
 // The changes for whoever holds live requests whose rows fit, and lends any slice that is as long as a store.
-// Stays: the clauses `length store.old ≡ store_length` and `Fits live` may not ask more: callers hold requests and a slice, and an array and
-// `Live` would ask them for those.
+// Stays: the clauses `length store.old ≡ store_length` and `Fits live` may not ask more: any requests and slice of which they hold go. The
+// crates above have an array and a `Live`, and call the methods.
 ghost use Rattle.std.specs.Prelude.{◌≡◌, [], ◌∷◌, ◌++◌, ◌≤◌, ◌<◌, length};
 ghost use Rattle.command.specs.Payload.{max_data};
 ghost use Rattle.ledger.specs.Parts.{live_max};
@@ -11,8 +11,7 @@ ghost use Rattle.live_changes.specs.Changing.{changed, Names, Becomes};
 use crate::{Change, Live};
 use endpoint::{Request, Requests};
 
-// Carries out a change, if any. Asks for a store of its length, rows that fit and a row in use: the callers have refused a malformed
-// endpoint, and a search has found the row.
+// Carries out a change, if any. Asks for a store of its length, rows that fit and a row in use.
 // Ruled out: another request touched than the one named, and an ended request's data left to the next one.
 pub fn carry_out(live: Requests, store: &mut [u8], change: Option<Change>) -> Requests
     requires { (length store.old ≡ store_length) × Fits live × Names change live.count }

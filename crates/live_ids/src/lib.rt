@@ -13,7 +13,7 @@ use malformed_rule::is_among;
 
 // The first ID that none of these rows has, from one on: no more are passed over than there are rows.
 // Ruled out: an ID that is live, and 0 after 65535.
-// Stays: the clause `reserved ≤ reserved_max` may not ask more: callers hand in an endpoint's R, and a number of eight bits would ask them for one.
+// Stays: the clause `reserved ≤ reserved_max` may not ask more: R is a number of 64 bits in an endpoint, and may be handed in as it stands there.
 #[tactic(auto, using(crate::proofs::FirstFree::free))]
 pub fn first_free(rows: &[Request], reserved: u64, from: RequestId) -> RequestId
     requires { reserved ≤ reserved_max }

@@ -55,7 +55,7 @@ pairs_room s = 2 * length s
 abbrev pub part_length : ℕ
 part_length = 64
 
--- a text was put behind what a vector held, within a room
+-- a text was put behind the one that stood there, within a room
 pub record Puts (room : ℕ) (text entry exit : List ℕ) : Type 0 where
   pub within : length exit ≤ length entry + room
   pub reads : exit ≡ entry ++ text

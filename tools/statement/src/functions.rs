@@ -88,12 +88,14 @@ fn impl_of(line: &str) -> Option<&str> {
     behind.strip_prefix(' ')
 }
 
-/// Whether two paths are of one function. A method's path may go by the module of its type or by that of its code.
+/// Whether two paths are of one function. A method's path may go by the module of its type or by that of its code, and leave out what
+/// its type is of.
 pub fn is_same(one: &str, other: &str) -> bool {
     let method_of = |path: &str| {
         let parts: Vec<&str> = path.split("::").collect();
         let (first, last) = (parts.first()?, parts.len().checked_sub(2).map(|at| &parts[at..])?);
-        last[0].starts_with(char::is_uppercase).then(|| format!("{first}::{}", last.join("::")))
+        let type_name = last[0].split('+').next()?;
+        type_name.starts_with(char::is_uppercase).then(|| format!("{first}::{type_name}::{}", last[1]))
     };
     one == other || method_of(one).is_some_and(|m| method_of(other) == Some(m))
 }
@@ -107,7 +109,7 @@ pub fn paths_in(file: &str, code: &str) -> Vec<String> {
     let mut left_out = false;
     for line in code.lines() {
         if let Some(of) = impl_of(line) {
-            inside = format!("::{}", type_in(of));
+            inside = format!("::{}", type_in(of, &parameters_of(line)));
         } else if ["#[cfg(test)]", "trait ", "pub trait "].iter().any(|begins| line.starts_with(begins)) {
             left_out = true;
         } else if line.starts_with('}') {
@@ -128,13 +130,30 @@ fn module_of(file: &str) -> String {
     parts.map(|(_, part)| part).collect::<Vec<_>>().join("::")
 }
 
-/// `Type {` is `Type`, and `Trait for Type {` is `TypeTrait`, as the prover names it.
-fn type_in(of: &str) -> String {
+/// `Type {` is `Type`, `Type<u8> {` is `Type+u8`, and `Trait for Type<u8> {` is `TypeU8Trait`, as the prover names it.
+fn type_in(of: &str, parameters: &[&str]) -> String {
     let name = |text: &str| text.trim().split([' ', '<', '{', '(']).next().unwrap_or("").rsplit("::").next().unwrap_or("").to_string();
     match of.split_once(" for ") {
-        Some((of_trait, of_type)) => capital(&name(of_type)) + &name(of_trait),
-        None => name(of),
+        Some((of_trait, of_type)) => {
+            let of_what: String = types_in(of_type, parameters).iter().map(|t| capital(t)).collect();
+            capital(&name(of_type)) + &of_what + &name(of_trait)
+        }
+        None => types_in(of, parameters).iter().fold(name(of), |so_far, of_what| so_far + "+" + of_what),
     }
+}
+
+/// The types that a type is of, its parameters and lifetimes aside: `u8` of `ArrayVec<u8, N> {`, where `N` is a parameter.
+fn types_in<'a>(of_type: &'a str, parameters: &[&str]) -> Vec<&'a str> {
+    let inside = enclosed(of_type, '<', '>').map_or("", |(inside, _)| inside);
+    let each = inside.split(',').map(str::trim);
+    each.filter(|t| !t.is_empty() && !t.starts_with('\'') && !parameters.contains(t)).collect()
+}
+
+/// The names of an `impl`'s parameters: `N` of `impl<const N: usize> Room for ArrayVec<u8, N> {`.
+fn parameters_of(line: &str) -> Vec<&str> {
+    let parameters = line.strip_prefix("impl<").and_then(|_| enclosed(line, '<', '>')).map_or("", |(inside, _)| inside);
+    let each = parameters.split(',').map(|p| p.trim().trim_start_matches("const "));
+    each.filter_map(|p| p.split(':').next()).map(str::trim).collect()
 }
 
 /// `U16` of `u16`, as the prover names an `impl` for it.
@@ -277,6 +296,18 @@ impl<T: Into<Seq>> Reader<'_, T> {
     }
 }
 
+impl<const N: usize> Named for Vector<u8, N> {
+    fn name(&self) -> u8 {
+        0
+    }
+}
+
+impl Call<usize> {
+    pub fn told(self) -> u8 {
+        0
+    }
+}
+
 #[cfg(test)]
 mod tests {
     #[test]
@@ -302,6 +333,7 @@ fn last() {}
     #[test]
     fn paths_of_methods() {
         assert!(is_same("one::two::Type::f", "one::Type::f") && is_same("one::f", "one::f"));
+        assert!(is_same("one::two::Type+u8::f", "one::two::Type::f") && !is_same("one::Types+u8::f", "one::Type::f"));
         for (one, other) in [("one::Type::f", "one::Type::g"), ("one::Type::f", "two::Type::f"), ("one::two::f", "one::f"), ("one::f", "one::Type::f")] {
             assert!(!is_same(one, other), "{one} {other}");
         }
@@ -309,7 +341,7 @@ fn last() {}
 
     #[test]
     fn public_functions() {
-        assert_eq!(public_in(CODE), ["first", "bare", "first", "exported", "next"]);
+        assert_eq!(public_in(CODE), ["first", "bare", "first", "exported", "next", "told"]);
         let code = "pub fn a(x: u8)\n    pub fn b<'a>(x: &'a u8)\nfn c()\npub(crate) fn d()\n#[unsafe(no_mangle)] pub extern \"C\" fn e(\npub const fn f()";
         assert_eq!(public_in(code), ["a", "b", "e", "f"]);
     }
@@ -317,7 +349,7 @@ fn last() {}
     #[test]
     fn every_function_by_its_path() {
         let paths = paths_in("crates/one/src/two.rt", CODE);
-        let wanted = ["first", "bare", "own", "Frame::first", "exported", "FrameShown::show", "U16Named::name", "Reader::next", "last"];
+        let wanted = ["first", "bare", "own", "Frame::first", "exported", "FrameShown::show", "U16Named::name", "Reader::next", "VectorU8Named::name", "Call+usize::told", "last"];
         assert_eq!(paths, wanted.map(|name| format!("one::two::{name}")));
         assert_eq!(paths_in("crates/one/src/main.rt", "fn main() {}\n"), ["one::main"]);
         assert_eq!(paths_in("crates/one/src/a/b.rt", "fn c() {}\n"), ["one::a::b::c"]);
