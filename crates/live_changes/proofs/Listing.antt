@@ -123,3 +123,13 @@ requests_set k (suc i) (p ∷ qs) q s x o h few =
     let stay : OthersStay (suc k + i) s x = rw sum o in
     let rest = rw sum at (requests_set (suc k) i qs q s x stay (short_others p qs h) (omega arith)) in
     rw (own, rest)
+
+-- the same where no room changes
+pub requests_set_alone : (k i : ℕ) (qs : List Request) (q : Request) (s : List ℕ)
+    → requests_from k (set qs i q) s ≡ set (requests_from k qs s) i (request_of q (room_at s (k + i) q.len))
+unfolding requests_from
+requests_set_alone k i [] q s = refl
+requests_set_alone k zero (p ∷ qs) q s = rw (add-zero k)
+requests_set_alone k (suc i) (p ∷ qs) q s =
+    let sum : suc k + i ≡ k + suc i = omega arith in
+    ap (request_of p (room_at s k p.len) ∷◌) (rw sum at (requests_set_alone (suc k) i qs q s))

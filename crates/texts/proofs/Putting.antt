@@ -88,20 +88,29 @@ pair_set l at a b fits =
     rw (two, take-suc-set (set l at a) (at + 1) b (simp length-set (omega arith)), one, take-suc-set l at a (omega arith))
     (append_assoc (take at l) (a ∷ []) (b ∷ []))
 
--- the digits of one more byte set, as the invariant of the loop over a part, and the end of it
-pub pairs_step : (s d : List ℕ) (i : ℕ) (l : List ℕ) → i < length s → 2 * i + 2 ≤ length d → take (2 * i) d ++ pairs (drop i s) ≡ l
+-- the pair of one more byte put behind those so far, as the invariant of a loop over the bytes, and the end of it
+pub pairs_step : (s : List ℕ) (i : ℕ) (l x y : List ℕ) → i < length s → y ≡ x ++ pair (get_or s i 0) → x ++ pairs (drop i s) ≡ l
+    → y ++ pairs (drop (i + 1) s) ≡ l
+unfolding pairs
+pairs_step s i l x y within put so_far =
+    rw (put, append_assoc x (pair (get_or s i 0)) (pairs (drop (i + 1) s))) (rw (drop_more s i 0 within) at so_far)
+
+pub pairs_end : (s : List ℕ) (i : ℕ) (l x : List ℕ) → length s ≤ i → x ++ pairs (drop i s) ≡ l → x ≡ l
+unfolding pairs
+pairs_end s i l x over so_far = rw (drop_of_length-le s {i = i} over, append-nil) at so_far
+
+-- the same where its digits are set in an array
+pub pairs_set_step : (s d : List ℕ) (i : ℕ) (l : List ℕ) → i < length s → 2 * i + 2 ≤ length d → take (2 * i) d ++ pairs (drop i s) ≡ l
     → take (2 * (i + 1)) (set (set d (2 * i) (hex_digit_ascii (get_or s i 0 / 16))) (2 * i + 1) (hex_digit_ascii (get_or s i 0 % 16)))
     ++ pairs (drop (i + 1) s)
     ≡ l
-unfolding pairs
-pairs_step s d i l within fits so_far =
+pairs_set_step s d i l within fits so_far =
     let next : 2 * (i + 1) ≡ 2 * i + 2 = omega arith in
-    let pair = pair_set d (2 * i) (hex_digit_ascii (get_or s i 0 / 16)) (hex_digit_ascii (get_or s i 0 % 16)) fits in
-    rw (next, pair, append_assoc (take (2 * i) d) _ (pairs (drop (i + 1) s))) (rw (drop_more s i 0 within) at so_far)
+    let put = pair_set d (2 * i) (hex_digit_ascii (get_or s i 0 / 16)) (hex_digit_ascii (get_or s i 0 % 16)) fits in
+    rw next (pairs_step s i l (take (2 * i) d) _ within put so_far)
 
-pub pairs_end : (s d : List ℕ) (i : ℕ) → i ≡ length s → take (2 * i) d ++ pairs (drop i s) ≡ pairs s → take (2 * length s) d ≡ pairs s
-unfolding pairs
-pairs_end s d i over so_far = rw over at (rw (drop_of_length-le s {i = i} (omega (arith, over)), append-nil) at so_far)
+pub pairs_set_end : (s d : List ℕ) (i : ℕ) → i ≡ length s → take (2 * i) d ++ pairs (drop i s) ≡ pairs s → take (2 * length s) d ≡ pairs s
+pairs_set_end s d i over so_far = rw over at (pairs_end s i (pairs s) (take (2 * i) d) (omega (arith, over)) so_far)
 
 -- one more part put, as the invariant of the loop over them
 pairs_append : (s t : List ℕ) → pairs (s ++ t) ≡ pairs s ++ pairs t
